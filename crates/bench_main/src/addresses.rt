@@ -1,5 +1,5 @@
-//! Many interfaces with many addresses, as of a host in many networks: each address brings a route, routes lead over their
-//! neighbours, packets go there, and half of the addresses are taken away.
+//! Many interfaces with many addresses, as of a host in many networks: each address brings a route, routes lead over
+//! their neighbours, packets go there, and half of the addresses are taken away.
 ghost use Rattle.std.specs.Prelude.{◌≤◌};
 
 use crate::lines::Lines;
@@ -103,7 +103,8 @@ fn draw_neighbour(work: &mut Work, first: u32, count: u32) -> u32 {
     network(first, number) + 2 + work.chance.word() % 250
 }
 
-/// The network of the address of this number: networks of 256 addresses in an order that `first` says, from 16.0.0.0 on.
+/// The network of the address of this number: networks of 256 addresses in an order that `first` says, from 16.0.0.0
+/// on.
 fn network(first: u32, number: u32) -> u32
     ensures { result ≤ 0x2000_0000 }
 {

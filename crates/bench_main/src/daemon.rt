@@ -1,5 +1,5 @@
-//! The day of a routing daemon: it adds a table of routes, and then asks, changes, deletes and adds as its neighbours tell,
-//! by messages that it writes; another process hears all.
+//! The day of a routing daemon: it adds a table of routes, and then asks, changes, deletes and adds as its neighbours
+//! tell, by messages that it writes; another process hears all.
 use crate::chance::Chance;
 use crate::lines::Lines;
 use crate::machine::Fault;
@@ -8,8 +8,8 @@ use crate::work::Work;
 use route_msgs::bits::{RTA_DST, RTA_GATEWAY, RTA_NETMASK};
 use route_msgs::kinds::{RTM_ADD, RTM_CHANGE, RTM_DELETE, RTM_GET};
 
-/// An interface with the network of the gateways; a socket of the daemon, which doesn't hear itself, and one of a process
-/// that hears it.
+/// An interface with the network of the gateways; a socket of the daemon, which doesn't hear itself, and one of a
+/// process that hears it.
 const HEAD: &str =
     "if le0 broadcast 6 080020010203\naddr le0 10.0.0.1/8\nopen d 100 any\nopen m 200 2\nloopback d off\n";
 
@@ -65,8 +65,8 @@ pub(crate) fn put_add(lines: &mut Lines, number: u32, network: Network, chance: 
     lines.text(" flags 803\n");
 }
 
-/// Puts the line that writes a request about one of the networks by chance: of ten five ask, three change the gateway, one
-/// deletes the route, and one adds again one that is gone.
+/// Puts the line that writes a request about one of the networks by chance: of ten five ask, three change the gateway,
+/// one deletes the route, and one adds again one that is gone.
 fn put_request(work: &mut Work, number: u32, gone: &mut Vec<Network>) -> Result<(), Fault> {
     let kind = draw_kind(&mut work.chance);
     let drawn = match kind {
@@ -111,8 +111,8 @@ fn addresses_of(kind: u8) -> (u32, u32) {
     }
 }
 
-/// Puts the line that writes a request of this type: a GET asks for an address of the network, any other names the network
-/// itself.
+/// Puts the line that writes a request of this type: a GET asks for an address of the network, any other names the
+/// network itself.
 fn put_write(lines: &mut Lines, kind: u8, number: u32, network: Network, chance: &mut Chance) {
     let (addrs, size) = addresses_of(kind);
     lines.text("write d ");

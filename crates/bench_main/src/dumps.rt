@@ -1,4 +1,5 @@
-//! Dumps of a table that changes: a process asks how much room a dump wants, and takes it whole, by a flag, and in a part.
+//! Dumps of a table that changes: a process asks how much room a dump wants, and takes it whole, by a flag, and in a
+//! part.
 use crate::daemon::{add_routes, put_add};
 use crate::machine::Fault;
 use crate::networks::Network;

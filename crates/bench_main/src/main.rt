@@ -1,5 +1,5 @@
-//! The benchmark's program: it makes a workload of a name by chance, from a number and of a size, gives it to the public
-//! calls that `routesim`, `routeshow` and the library stand on, and prints a digest of all that these answered:
+//! The benchmark's program: it makes a workload of a name by chance, from a number and of a size, gives it to the
+//! public calls that `routesim`, `routeshow` and the library stand on, and prints a digest of all that these answered:
 //! `bench_main NAME SEED COUNT`. NAME is `all` for each workload once. `bench/run` says how it is measured.
 #![tactic(auto)]
 

@@ -1,8 +1,8 @@
 //! Networks that lie in one another, of all lengths of masks, and packets that agree with none of them and take the
 //! default route. All networks are of the lower half of the addresses and all packets go to the upper one: but for its
-//! first bit each packet would agree with networks of all lengths, so it has to be tried against all. At the end a few go
-//! to the lower half, so that the digest tells of the networks too. Packets are sent without a line and without a text, as
-//! by the library.
+//! first bit each packet would agree with networks of all lengths, so it has to be tried against all. At the end a few
+//! go to the lower half, so that the digest tells of the networks too. Packets are sent without a line and without a
+//! text, as by the library.
 use crate::chance::Chance;
 use crate::daemon::{add_routes, put_add};
 use crate::machine::Fault;
@@ -49,8 +49,8 @@ pub(crate) fn run(work: &mut Work, count: u32) -> Result<(), Fault> {
     Ok(())
 }
 
-/// An address of the lower half. Its next bits are those of its number, the last one first, so that no two addresses have
-/// the same; those left to packets are 0, and all others by chance.
+/// An address of the lower half. Its next bits are those of its number, the last one first, so that no two addresses
+/// have the same; those left to packets are 0, and all others by chance.
 fn draw_address(chance: &mut Chance, number: u32) -> u32 {
     (number.reverse_bits() | chance.word() >> NUMBERED) >> 1 & !NEAR
 }

@@ -1,7 +1,7 @@
-//! A site's table: routes to its own networks, of fifteen lengths with that of its interface, and a default route by which it
-//! reaches the world. Packets go both ways; hosts of one network come in order and go again, oldest first; hosts of another
-//! one come by chance; and an address of an interface comes and goes. Packets are sent without a line and without a text, as
-//! by the library.
+//! A site's table: routes to its own networks, of fifteen lengths with that of its interface, and a default route by
+//! which it reaches the world. Packets go both ways; hosts of one network come in order and go again, oldest first;
+//! hosts of another one come by chance; and an address of an interface comes and goes. Packets are sent without a line
+//! and without a text, as by the library.
 use crate::chance::shuffled;
 use crate::daemon::{add_routes, put_add};
 use crate::machine::Fault;

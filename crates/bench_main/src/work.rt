@@ -7,8 +7,8 @@ use route_core::{Answer, Choice};
 use sock_addrs::{Gate, Inet};
 use std::alloc::{AllocError, Global};
 
-/// A machine, what its lines are drawn from, the networks that it has routes to, and a digest of what it answered without
-/// a text.
+/// A machine, what its lines are drawn from, the networks that it has routes to, and a digest of what it answered
+/// without a text.
 #[derive(Drop)]
 pub(crate) struct Work {
     pub(crate) machine: Machine,

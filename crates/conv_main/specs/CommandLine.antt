@@ -54,8 +54,8 @@ Names words read written =
 abbrev pub NamesNone : List Text → Type 0
 NamesNone words = (side_of (word_of (codes "FROM") words) ≡ None) ⊎ (side_of (word_of (codes "TO") words) ≡ None)
 
--- what each refusal of these words says of them: there is a fault in them, or FROM or TO is not named; or neither holds, and
--- they name a FILE
+-- what each refusal of these words says of them: there is a fault in them, or FROM or TO is not named; or neither
+-- holds, and they name a FILE
 abbrev pub Refuses : List Text → Refusal → Type 0
 Refuses words Usage = (faults_of words ≢ []) ⊎ NamesNone words
 Refuses words Unopened = (faults_of words ≡ []) × (NamesNone words → ⊥) × (is_some (word_of (codes "FILE") words) ≡ true)

@@ -1,5 +1,6 @@
--- What a run with an outcome did to its reader, which had `before` and has `after` left, to its writer, which held `old` and
--- holds `new`, and to the writer that it tells of refused messages, which held `old_told` and holds `new_told`.
+-- What a run with an outcome did to its reader, which had `before` and has `after` left, to its writer, which held
+-- `old` and holds `new`, and to the writer that it tells of refused messages, which held `old_told` and holds
+-- `new_told`.
 use Rattle.std.specs.Prelude.{◌≡◌, ◌<◌, ◌≤◌, Bool, true, false, List, [], ◌∷◌, ◌++◌, ℕ, Option, ◌⊎◌}
 use Rattle.std.specs.Io.KnownBytes.{Appends, Consumes, IsAtEnd}
 use Rattle.program_ends.specs.declared.outcome.Outcome.{Outcome}
@@ -13,8 +14,8 @@ abbrev pub has_line : List ℕ → Bool
 has_line [] = false
 has_line (b ∷ bs) = true
 
--- it wrote all that the reader had with each message in the other layout, and told of those that have no counterpart there,
--- of at least one or of none
+-- it wrote all that the reader had with each message in the other layout, and told of those that have no counterpart
+-- there, of at least one or of none
 pub record ConvertedAll (w : Way) (refused : Bool) (before after old new old_told new_told : Option (List ℕ)) : Type 0 where
   pub read : List ℕ
   pub consumes : Consumes before after read
@@ -42,8 +43,8 @@ pub record Fronts (text lines : List ℕ) (old new old_told new_told : Option (L
   pub out : WroteFrontOf text old new
   pub told : WroteFrontOf lines old_told new_told
 
--- it wrote and told a front of what it would have written and told of the pieces that were read to their ends, the last at the
--- end of the text
+-- it wrote and told a front of what it would have written and told of the pieces that were read to their ends, the last
+-- at the end of the text
 pub record ConvertedFront (w : Way) (before after old new old_told new_told : Option (List ℕ)) : Type 0 where
   pub read : List ℕ
   pub consumes : Consumes before after read
@@ -69,8 +70,8 @@ Ends ReadFault w before after old new old_told new_told = ConvertedWhole w befor
 Ends WriteFault w before after old new old_told new_told = ConvertedFront w before after old new old_told new_told
 Ends NoMemory w before after old new old_told new_told = ConvertedFirst w before after old new old_told new_told
 
--- how often memory was refused before a run with this outcome, and after it. A want of memory ends the run, with its own
--- outcome, or as a write fault where what was made before it can't be written
+-- how often memory was refused before a run with this outcome, and after it. A want of memory ends the run, with its
+-- own outcome, or as a write fault where what was made before it can't be written
 abbrev pub EndsCounted : Outcome → ℕ → ℕ → Type 0
 EndsCounted Done low high = high ≡ low
 EndsCounted BadLine low high = high ≡ low

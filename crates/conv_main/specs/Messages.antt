@@ -19,7 +19,8 @@ pub record Message : Type 0 where
 abbrev pub is_id : List ℕ → Bool
 is_id word = nat_le 1 (length word) && nat_le (length word) 8 && list_all is_name_byte word
 
--- how many bytes of a line stand before the digits, where it begins with `write ` and an id and a space behind it come next
+-- how many bytes of a line stand before the digits, where it begins with `write ` and an id and a space behind it come
+-- next
 abbrev pub size_before_written : Option ℕ → List ℕ → ℕ
 size_before_written None rest = 0
 size_before_written (Some space) rest = if is_id (take space rest) then space + 7 else 0

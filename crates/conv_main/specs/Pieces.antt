@@ -22,7 +22,8 @@ is_whole_in Raw w piece = is_message w piece
 abbrev pub is_whole : Way → List ℕ → Bool
 is_whole w piece = is_whole_in w.read w piece
 
--- the pieces that these bytes end, behind what has come of the first: each ends where it is whole, and there the next begins
+-- the pieces that these bytes end, behind what has come of the first: each ends where it is whole, and there the next
+-- begins
 abbrev pub whole_pieces : Way → List ℕ → List ℕ → List (List ℕ)
 whole_pieces w begun [] = []
 whole_pieces w begun (b ∷ bs) =

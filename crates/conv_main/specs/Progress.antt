@@ -13,8 +13,8 @@ use Rattle.conv_main.specs.declared.way.Way.{Way}
 abbrev pub Begins : List ℕ → List ℕ → Type 0
 Begins old new = take (length old) new ≡ old
 
--- of some pieces, the first of which begins at p, those were converted that stand before this rest, which begins at q: what is
--- written and told of them stands behind what was made before
+-- of some pieces, the first of which begins at p, those were converted that stand before this rest, which begins at q:
+-- what is written and told of them stands behind what was made before
 pub record Took (w : Way) (p q : Place) (pieces rest : List (List ℕ)) (old new old_told new_told : List ℕ) : Type 0 where
   pub done : List (List ℕ)
   pub whole : pieces ≡ done ++ rest
@@ -22,8 +22,8 @@ pub record Took (w : Way) (p q : Place) (pieces rest : List (List ℕ)) (old new
   pub out : new ≡ old ++ converted w done
   pub lines : new_told ≡ old_told ++ told w p done
 
--- these bytes were read, the pieces that are whole among them were converted, whether or not something was told, and the next has
--- begun with `piece` at `place`
+-- these bytes were read, the pieces that are whole among them were converted, whether or not something was told, and
+-- the next has begun with `piece` at `place`
 pub record Reached (w : Way) (refused : Bool) (before after old new old_told new_told : Option (List ℕ)) (piece : List ℕ) (place : Place) : Type 0 where
   pub read : List ℕ
   pub consumes : Consumes before after read
@@ -33,7 +33,8 @@ pub record Reached (w : Way) (refused : Bool) (before after old new old_told new
   pub piece_is : piece ≡ begun_piece w [] read
   pub place_is : place ≡ place_after w first_place (whole_pieces w [] read)
 
--- what is left at the end of a text, which begins at this place, was converted: whether something was told, then or before
+-- what is left at the end of a text, which begins at this place, was converted: whether something was told, then or
+-- before
 pub record Finished (w : Way) (refused told_before : Bool) (p : Place) (piece : List ℕ) (old new old_told new_told : Option (List ℕ)) : Type 0 where
   pub appends : Appends old new (converted w (last_piece piece))
   pub tells : Appends old_told new_told (told w p (last_piece piece))

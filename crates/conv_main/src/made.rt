@@ -25,8 +25,8 @@ pub(crate) struct Made {
 }
 
 impl Made {
-    /// Appends what is written and told of a piece, and answers whether it has a message. Where there is no memory, some of
-    /// it.
+    /// Appends what is written and told of a piece, and answers whether it has a message. Where there is no memory,
+    /// some of it.
     pub(crate) fn put_piece(
         &mut self,
         alloc: Global,
@@ -58,7 +58,8 @@ impl Made {
         }
     }
 
-    /// The same of a piece that is a line, which tells a message, behind `msg ` or `write ID `, or none and is kept among lines.
+    /// The same of a piece that is a line, which tells a message, behind `msg ` or `write ID `, or none and is kept
+    /// among lines.
     fn put_line(
         &mut self,
         alloc: Global,
@@ -97,8 +98,8 @@ impl Made {
         }
     }
 
-    /// The same of a piece whose message is this one: appends the converted message, or, where that has no counterpart, tells why
-    /// and appends what stands for the piece then.
+    /// The same of a piece whose message is this one: appends the converted message, or, where that has no counterpart,
+    /// tells why and appends what stands for the piece then.
     fn put_message(
         &mut self,
         way: &Way,

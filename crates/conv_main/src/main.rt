@@ -1,5 +1,6 @@
-//! Converts the routing messages of a text from the layout of one system to that of another: `routeconv FROM TO [FILE]`,
-//! where the text, as a script or a transcript of `routesim`, is FILE, or standard input where no FILE is named.
+//! Converts the routing messages of a text from the layout of one system to that of another:
+//! `routeconv FROM TO [FILE]`, where the text, as a script or a transcript of `routesim`, is FILE, or standard input
+//! where no FILE is named.
 #![tactic(auto)]
 
 mod made;

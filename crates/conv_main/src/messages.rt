@@ -95,8 +95,8 @@ fn size_before_written(rest: &[u8]) -> usize
     }
 }
 
-/// The bytes of the message that a line tells, of which this many bytes stand before the digits. `Err` for want of memory
-/// alone, which is counted.
+/// The bytes of the message that a line tells, of which this many bytes stand before the digits. `Err` for want of
+/// memory alone, which is counted.
 pub(crate) fn bytes_on(
     alloc: Global,
     size: usize,

@@ -1,5 +1,5 @@
-//! The program round a run: the file that its words name is read, standard output written, and standard error told of what is
-//! refused.
+//! The program round a run: the file that its words name is read, standard output written, and standard error told of
+//! what is refused.
 ghost use Rattle.std.specs.Prelude.{◌≡◌, ◌<◌, ◌⊎◌, [], IfErr, Ok, OnOk, map};
 ghost use Rattle.std.specs.Process.{exit_status};
 ghost use Rattle.std.specs.String.{string_bytes};

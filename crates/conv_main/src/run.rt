@@ -23,10 +23,10 @@ const MOST_READS: u64 = 16_777_216;
 /// The room that each read is given, in bytes.
 const READ_ROOM: usize = 4096;
 
-/// Reads a text, and writes it with each message in the other layout: what each read ends is written before the next read. A
-/// message that has no counterpart there is told of, and what stands for it is written. What is left at the end of the text is
-/// converted there, but not where a fault comes first. A line or a message has the room that it needs; where there is no memory
-/// for it, the run ends; how often it was refused is counted.
+/// Reads a text, and writes it with each message in the other layout: what each read ends is written before the next
+/// read. A message that has no counterpart there is told of, and what stands for it is written. What is left at the end
+/// of the text is converted there, but not where a fault comes first. A line or a message has the room that it needs;
+/// where there is no memory for it, the run ends; how often it was refused is counted.
 pub(crate) fn run<R: Read, W: Write, E: Write>(
     alloc: Global,
     way: &Way,
@@ -41,8 +41,8 @@ pub(crate) fn run<R: Read, W: Write, E: Write>(
     requires no_write_failure { writer.old.failures ≡ 0 }
     requires no_failure_to_tell { teller.old.failures ≡ 0 }
 
-    // Where the run is done, what was written is the whole text with each message in the other layout, and nothing else; and
-    // nothing was told.
+    // Where the run is done, what was written is the whole text with each message in the other layout, and nothing
+    // else; and nothing was told.
     ensures converted { result ≡ Outcome.Done → IfSome (R.remaining reader.old.inner) (λ text.
         Appends (W.contents writer.old.inner) (W.contents writer.new.inner) (converted_text way.now text)
         × (told_text way.now text ≡ [])) }
@@ -83,7 +83,8 @@ pub(crate) fn run<R: Read, W: Write, E: Write>(
     ensures counted { EndsCounted result memory.old memory.new }
     ensures short { memory.old < memory.new → (result ≡ Outcome.NoMemory) ⊎ (result ≡ Outcome.WriteFault) }
 
-    // So where none was refused, and no read and no write failed, a text of fewer bytes than there are reads is converted.
+    // So where none was refused, and no read and no write failed, a text of fewer bytes than there are reads is
+    // converted.
     ensures exact { memory.new ≡ memory.old → reader.new.failures ≡ 0 → writer.new.failures + teller.new.failures ≡ 0
         → IfSome (R.remaining reader.old.inner) (λ text. length text < MOST_READS
         → Appends (W.contents writer.old.inner) (W.contents writer.new.inner) (converted_text way.now text)
@@ -161,8 +162,8 @@ fn convert_all<R: Read, W: Write, E: Write>(
     Outcome::ReadFault
 }
 
-/// Converts what is left at the end of the text, writes it, and says how the run ended: whether some message was refused, or
-/// one was before.
+/// Converts what is left at the end of the text, writes it, and says how the run ended: whether some message was
+/// refused, or one was before.
 fn finish<W: Write, E: Write>(
     alloc: Global,
     way: &Way,

@@ -15,7 +15,8 @@ use std::alloc::AllocError;
 /// The most bytes of a line about a message.
 const MOST_LINE: usize = 128;
 
-/// Appends bytes, however many these are: more than may be asked for at once one by one. Where there is no memory, some of them.
+/// Appends bytes, however many these are: more than may be asked for at once one by one. Where there is no memory, some
+/// of them.
 #[tactic(auto, using(crate::proofs::Grown::begins_self))]
 pub(crate) fn append(
     text: &mut Vec<u8>,

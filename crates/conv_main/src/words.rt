@@ -81,8 +81,8 @@ fn side_in(word: Option<&str>) -> Option<Side>
     }
 }
 
-/// What these words name. A word that begins with `-` and has more is an option, and refused; a first `--` is none and ends
-/// the options; `-` is a file of that name.
+/// What these words name. A word that begins with `-` and has more is an option, and refused; a first `--` is none and
+/// ends the options; `-` is a file of that name.
 pub(crate) fn asked_by<'a>(alloc: Global, words: &'a [String]) -> Result<Asked<'a>, Refusal>
     ensures right { IfOk result (λ _. faults_of (map string_bytes words.entry.now) ≡ []) }
     ensures sides { IfOk result (λ asked. Names (map string_bytes words.entry.now) asked.read asked.written) }

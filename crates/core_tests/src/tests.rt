@@ -1,5 +1,5 @@
-//! Single calls, among them such as no program makes, bytes that were worked out by hand, printed texts, messages in words and in
-//! other layouts, and the table against a plain list.
+//! Single calls, among them such as no program makes, bytes that were worked out by hand, printed texts, messages in
+//! words and in other layouts, and the table against a plain list.
 
 mod changes;
 mod layouts;

@@ -1,4 +1,5 @@
--- A reader or a writer with its counts, how they rise, the least room of a read, and whether what was written is flushed.
+-- A reader or a writer with its counts, how they rise, the least room of a read, and whether what was written is
+-- flushed.
 use Rattle.std.specs.Prelude.{ℕ, ◌+◌, ◌-◌, ◌^◌, ◌==◌, ◌&&◌, not, min, cond, Bool, true, false, List, length, Result, Ok, Err}
 
 -- what a contract sees of a `Counted`

@@ -27,9 +27,9 @@ const MOST_KEPT: usize = 4080;
 /// The longest message whose line is kept back, in bytes.
 const MOST_PUT: usize = 2037;
 
-/// Writes the text of a line's answer, going on behind what a short write took: that of an answer, or `bad`. It is refused
-/// at the first write that answers an error or takes no byte, and what was taken before is then a front of that text.
-/// `buffer` is room for `TEXT_ROOM` bytes of text; what it held is lost.
+/// Writes the text of a line's answer, going on behind what a short write took: that of an answer, or `bad`. It is
+/// refused at the first write that answers an error or takes no byte, and what was taken before is then a front of that
+/// text. `buffer` is room for `TEXT_ROOM` bytes of text; what it held is lost.
 pub fn write_answer<W: Write>(
     answer: &Result<Answer<'_>, Bad>,
     buffer: &mut [u8],
@@ -46,9 +46,9 @@ pub fn write_answer<W: Write>(
     }
 }
 
-/// Writes the answer to a command, as `write_answer`: `ok`, `err` with the errno's number, `via` or `drop` with a packet's
-/// route, `size` with a number of bytes or of messages, or `msg` with its bytes for each message and then `ok`, or `err`
-/// where some are left out.
+/// Writes the answer to a command, as `write_answer`: `ok`, `err` with the errno's number, `via` or `drop` with a
+/// packet's route, `size` with a number of bytes or of messages, or `msg` with its bytes for each message and then
+/// `ok`, or `err` where some are left out.
 pub fn write_command_answer<W: Write>(
     answer: &Answer<'_>,
     buffer: &mut [u8],
@@ -119,8 +119,8 @@ fn write_last<W: Write>(left_out: Option<Errno>, writer: &mut Counted<W>) -> Res
     }
 }
 
-// The lines of a refusal and of a packet's route are each made in a function of their own that is not inlined, since the
-// room of a line is cleared wherever one is made.
+// The lines of a refusal and of a packet's route are each made in a function of their own that is not inlined, since
+// the room of a line is cleared wherever one is made.
 
 /// Writes the line of a refusal.
 #[inline(never)]
@@ -175,8 +175,8 @@ pub(crate) fn refusal(errno: Errno) -> ArrayVec<u8, 16>
     line
 }
 
-/// Puts the line of a size to the front of `out`, and answers where it ends: how many bytes to ask for a dump, or how many
-/// messages were lost.
+/// Puts the line of a size to the front of `out`, and answers where it ends: how many bytes to ask for a dump, or how
+/// many messages were lost.
 pub(crate) fn put_size(size: u64, out: &mut [u8]) -> usize
     requires { 32 ≤ length out.old }
     ensures end { result ≡ length (line_of_size size) }

@@ -49,8 +49,8 @@ fn put_inet(line: &mut ArrayVec<u8, 128>, address: Inet)
     put_byte(line, b'.', d);
 }
 
-/// Puts a byte and then the decimal of another behind the line. Its few digits are put straight there: two addresses of a
-/// packet's line have eight such numbers.
+/// Puts a byte and then the decimal of another behind the line. Its few digits are put straight there: two addresses of
+/// a packet's line have eight such numbers.
 fn put_byte(line: &mut ArrayVec<u8, 128>, before: u8, number: u8)
     requires { length line.old.items + 4 ≤ 128 }
     ensures text { line.new.items ≡ line.old.items ++ before ∷ decimal number }

@@ -8,8 +8,8 @@ use std::marker::Model;
 
 /// A reader or a writer with counts of its calls of `read`, of the failures among its reads, writes and flushes, and of
 /// its reads that came too early: while something that was written may not have been flushed. With them it keeps the
-/// least room that a read was offered, and whether something was written since the last flush. A contract sees it as the
-/// inner value and these.
+/// least room that a read was offered, and whether something was written since the last flush. A contract sees it as
+/// the inner value and these.
 #[derive(Drop)]
 pub struct Counted<T> {
     inner: T,
@@ -60,8 +60,8 @@ impl<T> Counted<T> {
         self.reads
     }
 
-    /// The number of reads, writes and flushes that answered an error, and of writes of at least one byte that took none;
-    /// from `u64::MAX` on it stays.
+    /// The number of reads, writes and flushes that answered an error, and of writes of at least one byte that took
+    /// none; from `u64::MAX` on it stays.
     pub fn failures(&self) -> u64
         ensures { result ≡ self.now.failures }
     {
@@ -99,8 +99,8 @@ impl<T> Counted<T> {
 }
 
 impl<R: Read> Counted<R> {
-    /// Reads from the inner reader into `buf`, and answers what that answers. What was written elsewhere may not have been
-    /// flushed.
+    /// Reads from the inner reader into `buf`, and answers what that answers. What was written elsewhere may not have
+    /// been flushed.
     pub fn read(&mut self, buf: &mut [u8]) -> io::Result<usize>
         ensures bound { ReadsAtMost result buf.new }
         ensures bytes { ReadConsumes (R.remaining self.old.inner) (R.remaining self.new.inner) result buf.new }

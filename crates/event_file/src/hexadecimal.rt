@@ -1,5 +1,5 @@
-//! Hexadecimal as `hex` has it. Digits are read by a table, and written without branches or a table, so that the compiler
-//! takes as many bytes at a time as the processor does.
+//! Hexadecimal as `hex` has it. Digits are read by a table, and written without branches or a table, so that the
+//! compiler takes as many bytes at a time as the processor does.
 ghost use Rattle.std.specs.Prelude.{◌≡◌, ◌*◌, ◌/◌, ◌%◌, length, slice_index, unwrap_or, MatchResult, true, false};
 ghost use Rattle.hex.specs.Hex.{decode_sized, encode_lower, hex_digit_value, lower_digits};
 

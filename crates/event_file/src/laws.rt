@@ -42,8 +42,8 @@ pub fn read_is_within_bounds()
 
 /// In every world that a script leads to, from the empty one on, the table is in order with no pair of a key and a mask
 /// twice, each route leads by way of an address, with a mask for clones of at most 32 bits, and out of one of the
-/// interfaces, neither a number of an address nor an id of a socket is given twice, and what waits for a socket fits its
-/// queue.
+/// interfaces, neither a number of an address nor an id of a socket is given twice, and what waits for a socket fits
+/// its queue.
 pub fn scripts_lead_to_worlds()
     ensures { ScriptsLeadToWorlds }
 {

@@ -44,9 +44,9 @@ impl LineBuffer {
         })
     }
 
-    /// The line that these bytes end, where nothing of it came before them: how many bytes it takes, with its newline, and
-    /// its bytes, or nothing of them where they are too many. `None` where some of it came before, or where its newline
-    /// is not among these bytes. Such a line need not be fed, and isn't copied.
+    /// The line that these bytes end, where nothing of it came before them: how many bytes it takes, with its newline,
+    /// and its bytes, or nothing of them where they are too many. `None` where some of it came before, or where its
+    /// newline is not among these bytes. Such a line need not be fed, and isn't copied.
     pub fn whole_line<'a>(&self, bytes: &'a [u8]) -> Option<(usize, Option<&'a [u8]>)>
         requires { self.now.ended ≡ false }
         ensures empty { IfSome result (λ _. self.now ≡ no_line) }

@@ -187,7 +187,8 @@ fn read_metrics(options: Options) -> Option<MetricWords>
     read_some_metrics(options)
 }
 
-/// Reads the metrics of a line that has some. It is not inlined: what it makes would else be cleared for each other line.
+/// Reads the metrics of a line that has some. It is not inlined: what it makes would else be cleared for each other
+/// line.
 #[inline(never)]
 fn read_some_metrics(mut options: Options) -> Option<MetricWords>
     ensures { result ≡ metric_options (map (λ w. w.now) options.entry.words.now) }

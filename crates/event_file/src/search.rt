@@ -4,11 +4,12 @@ ghost use Rattle.memchr.specs.Find.{IsFirstByte, is_byte};
 
 use memchr::memchr;
 
-/// How many bytes are looked at one at a time. Most words and lines are shorter, and for so few `memchr`, which looks at
-/// several at once, takes longer.
+/// How many bytes are looked at one at a time. Most words and lines are shorter, and for so few `memchr`, which looks
+/// at several at once, takes longer.
 const NEAR: usize = 16;
 
-/// The place of the first byte of this value in a text of few bytes, as most words are. It is small where it is inlined.
+/// The place of the first byte of this value in a text of few bytes, as most words are. It is small where it is
+/// inlined.
 #[inline(always)]
 pub(crate) fn place_of(byte: u8, text: &[u8]) -> Option<usize>
     ensures { result ≡ position (is_byte byte) text.now }

@@ -11,7 +11,8 @@ use arrayvec::ArrayVec;
 use route_core::{Command, MOST_WRITTEN, NewGateway, Said};
 use sock_addrs::Inet;
 
-// The forms are not inlined: what each makes of its words would else be cleared, and moved once more, for each other line.
+// The forms are not inlined: what each makes of its words would else be cleared, and moved once more, for each other
+// line.
 
 /// `NAME KIND T HEX`, behind `if`.
 #[inline(never)]

@@ -1,4 +1,4 @@
-//! The words of a line: how it is parted into them, whether one is a given word, and options, which are a name and a word.
+//! The words of a line: how it is parted into them, whether one is a given word, and options, a name and a word each.
 ghost use Rattle.std.specs.Prelude.{◌≡◌, ◌<◌, [], ◌∷◌, length, map, bytes_eq, option_map, Option, Some, None, MatchBool};
 ghost use Rattle.std.specs.Option.{IfSome, IfNone};
 ghost use Rattle.event_file.specs.Words.{parted_by, option_written, words_behind};
@@ -6,8 +6,8 @@ ghost use Rattle.event_file.specs.Words.{parted_by, option_written, words_behind
 use crate::search::place_of;
 use arrayvec::ArrayVec;
 
-/// Whether a word is this one. The words of a line are of few bytes, which are told apart sooner one at a time than by the
-/// `==` of slices.
+/// Whether a word is this one. The words of a line are of few bytes, which are told apart sooner one at a time than by
+/// the `==` of slices.
 #[inline(always)]
 pub(crate) fn is(word: &[u8], text: &str) -> bool
     ensures { result ≡ bytes_eq word.now text.now }

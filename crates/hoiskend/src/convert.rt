@@ -47,9 +47,9 @@ fn counterpart(from: System, to: System, message: &[u8], made: &mut Converted) -
     convert(&one, &other, message, made)
 }
 
-/// Puts a message of one system in the layout of another to the front of `out`, where there is room for all of it, and how
-/// many bytes it has into `size`. EINVAL: a number is no system's; a fault's code: it has no counterpart; `out` and `size`
-/// stay. ENOMEM: there is less room, and `out` stays.
+/// Puts a message of one system in the layout of another to the front of `out`, where there is room for all of it, and
+/// how many bytes it has into `size`. EINVAL: a number is no system's; a fault's code: it has no counterpart; `out` and
+/// `size` stay. ENOMEM: there is less room, and `out` stays.
 #[unsafe(no_mangle)]
 pub extern "C" fn hk_convert(
     from: u32,

@@ -6,8 +6,8 @@ ghost use base.Fml.{ftrue};
 use memory::Memory;
 use std::marker::Model;
 
-/// How often memory was refused to the call that wrote it. It has no bytes: C doesn't see it, and what holds it is to C as
-/// if it stood there alone.
+/// How often memory was refused to the call that wrote it. It has no bytes: C doesn't see it, and what holds it is to C
+/// as if it stood there alone.
 #[repr(C)]
 #[derive(Drop)]
 pub struct Count {

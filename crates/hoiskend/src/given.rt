@@ -5,8 +5,8 @@ ghost use Rattle.hoiskend.specs.Shown.{code_by_room};
 
 use sock_addrs::Errno;
 
-/// Puts the bytes to the front of `out`, where there is room for all of them, and how many they are into `size`. ENOMEM:
-/// there is less room, and `out` stays.
+/// Puts the bytes to the front of `out`, where there is room for all of them, and how many they are into `size`.
+/// ENOMEM: there is less room, and `out` stays.
 pub(crate) fn give(bytes: &[u8], out: &mut [u8], size: &mut usize) -> u32
     ensures code { result ≡ code_by_room bytes.now (length out.old) }
     ensures bytes { out.new ≡ given bytes.now out.old }

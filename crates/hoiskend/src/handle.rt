@@ -1,5 +1,5 @@
-//! A session in a block of memory of its own, by its address, which is all that C has of a world. Three functions here follow
-//! it, and no other code of `hoiskend` follows a raw pointer: what else C points to comes as slices and references.
+//! A session in a block of memory of its own, by its address, which is all that C has of a world. Three functions here
+//! follow it, and no other code of `hoiskend` follows a raw pointer: all else comes from C as slices and references.
 ghost use Rattle.std.specs.Prelude.{◌≡◌, Option, Some, None, is_some};
 ghost use Rattle.std.specs.Coded.{coded_option};
 ghost use Rattle.std.specs.Borrow.{sem};

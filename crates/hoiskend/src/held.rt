@@ -43,8 +43,8 @@ impl Held {
         })
     }
 
-    /// Takes a line of a script, without its newline, and answers the code of its command, as `obey`; 0 where it gives no
-    /// answer; or `BAD` where the grammar doesn't have it.
+    /// Takes a line of a script, without its newline, and answers the code of its command, as `obey`; 0 where it gives
+    /// no answer; or `BAD` where the grammar doesn't have it.
     pub(crate) fn heed(&mut self, line: &[u8]) -> u32
         ensures { Heeds self.old line.now result self.new }
     {

@@ -1,5 +1,6 @@
-//! The routing core for a program in C: a static library of functions over a handle, and of some that have a message alone:
-//! they show it in words, take it apart, and give it in the layout of another system. `include/hoiskend.h` has their types.
+//! The routing core for a program in C: a static library of functions over a handle, and of some that have a message
+//! alone: they show it in words, take it apart, and give it in the layout of another system. `include/hoiskend.h` has
+//! their types.
 #![tactic(auto)]
 
 mod asked;

@@ -273,8 +273,8 @@ pub extern "C" fn hk_message_header(message: &[u8], header: &mut Header) -> u32
     }
 }
 
-/// Puts the address of this bit, as it stands in a message, into `address`. The code of a fault; `ABSENT`: it isn't there;
-/// `address` stays.
+/// Puts the address of this bit, as it stands in a message, into `address`. The code of a fault; `ABSENT`: it isn't
+/// there; `address` stays.
 #[unsafe(no_mangle)]
 pub extern "C" fn hk_message_address(message: &[u8], bit: u32, address: &mut Address) -> u32
     ensures code { result ≡ address_code bit message.now }

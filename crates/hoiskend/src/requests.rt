@@ -1,4 +1,5 @@
-//! The functions that ask for a route: each is the write, to a socket, of the message that the words of the request compose.
+//! The functions that ask for a route: each is the write, to a socket, of the message that the words of the request
+//! compose.
 ghost use Rattle.hoiskend.specs.Requests.{request_asked};
 ghost use Rattle.hoiskend.specs.Sessions.{Asks, Calls};
 

@@ -69,8 +69,8 @@ impl Session {
         })
     }
 
-    /// Gives the world a command, and answers its code: 0, or the errno of what refused it. Where the answer is that there
-    /// is no memory, and only there, it was refused, and counted.
+    /// Gives the world a command, and answers its code: 0, or the errno of what refused it. Where the answer is that
+    /// there is no memory, and only there, it was refused, and counted.
     pub(crate) fn obey(&mut self, said: &Said<'_>) -> u32
         ensures step { Answers self.old.world said.now result self.new.response self.new.world }
         ensures counted { Rises (is_short self.new.response) self.old.refused self.new.refused }
@@ -97,7 +97,8 @@ impl Session {
         self.keep(answer)
     }
 
-    /// Gives the world a command, and puts the size that it is answered into `size`, where it is one. Answers as `obey`.
+    /// Gives the world a command, and puts the size that it is answered into `size`, where it is one. Answers as
+    /// `obey`.
     pub(crate) fn size(&mut self, said: &Said<'_>, size: &mut u64) -> u32
         ensures step { Answers self.old.world said.now result self.new.response self.new.world }
         ensures size { size.new ≡ unwrap_or (told_by size_in self.new.response) size.old }
@@ -128,8 +129,8 @@ impl Session {
         size
     }
 
-    /// Puts the text of what was answered last to the front of `out`, where there is room for all of it, and answers how
-    /// many bytes it has, at most `usize::MAX`.
+    /// Puts the text of what was answered last to the front of `out`, where there is room for all of it, and answers
+    /// how many bytes it has, at most `usize::MAX`.
     pub(crate) fn text(&self, out: &mut [u8]) -> usize
         ensures size { result ≡ min (length (text_of self.now.response)) (2 ^ 64 - 1) }
         ensures text { out.new ≡ given (text_of self.now.response) out.old }

@@ -28,7 +28,8 @@ pub extern "C" fn hk_show(alloc: Global, message: &[u8], out: &mut [u8], size: &
     code
 }
 
-/// Gives a message's text, as `hk_show` does. Where it answers ENOBUFS, and only there, memory was refused, and counted.
+/// Gives a message's text, as `hk_show` does. Where it answers ENOBUFS, and only there, memory was refused, and
+/// counted.
 fn show(alloc: Global, message: &[u8], out: &mut [u8], size: &mut usize, memory: &mut Memory) -> u32
     ensures code { IsCodeOf (text message.now) (length out.old) result }
     ensures text { out.new ≡ if_memory result (given (text message.now) out.old) out.old }

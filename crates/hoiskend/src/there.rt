@@ -1,5 +1,5 @@
-//! What is in a world as C sees it, and the functions over a handle that tell it, one after another. None of them changes a
-//! world or its last answer, or wants memory.
+//! What is in a world as C sees it, and the functions over a handle that tell it, one after another. None of them
+//! changes a world or its last answer, or wants memory.
 ghost use Rattle.std.specs.Prelude.{◌≡◌, unwrap_or};
 ghost use Rattle.sock_addrs.specs.Padded.{padded_to};
 ghost use Rattle.sock_addrs.specs.declared.errno.Errno.TheVariants.{EBADF, ENXIO, ESRCH};
@@ -46,8 +46,8 @@ pub struct Interface {
 pub struct InterfaceAddress {
     /// The address itself.
     pub address: u32,
-    /// The broadcast address of its network on a broadcast interface, the address itself on loopback, and the other end's on
-    /// a point-to-point interface.
+    /// The broadcast address of its network on a broadcast interface, the address itself on loopback, and the other
+    /// end's on a point-to-point interface.
     pub far: u32,
     /// How many bits its network has.
     pub prefix: u8,
@@ -230,8 +230,8 @@ pub extern "C" fn hk_interface_of(world: &mut Handle, index: u16, interface: &mu
     0
 }
 
-/// Puts the first address, from this place on, of the interface with this number into `address`, and the place behind it
-/// into `place`. ENXIO: there is no such interface; EADDRNOTAVAIL: it has no address from there on; both stay.
+/// Puts the first address, from this place on, of the interface with this number into `address`, and the place behind
+/// it into `place`. ENXIO: there is no such interface; EADDRNOTAVAIL: it has no address from there on; both stay.
 #[unsafe(no_mangle)]
 #[tactic(auto, unfolding(crate::specs::Sessions::Calls))]
 pub extern "C" fn hk_next_address(

@@ -22,8 +22,8 @@ use sock_addrs::{Errno, Gate, Inet, Link, Name};
 use std::alloc::{AllocError, Global};
 use std::marker::Model;
 
-/// How many homes there is memory for at first: with what the C library puts before them as long as a line of the cache, so that
-/// what is made after them lies in its lines as without them.
+/// How many homes there is memory for at first: with what the C library puts before them as long as a line of the
+/// cache, so that what is made after them lies in its lines as without them.
 const FIRST_HOMES: usize = 14;
 
 /// The interfaces with their addresses. A contract sees them in the order in which they were attached; they are

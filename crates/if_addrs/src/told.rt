@@ -50,8 +50,8 @@ impl Interfaces {
     }
 
     /// The first address, from this place on, that the interface with this number has: one that was removed is passed
-    /// over. Places are from 0 on, in the order in which the addresses were added. `None` where there is none, or no such
-    /// interface.
+    /// over. Places are from 0 on, in the order in which the addresses were added. `None` where there is none, or no
+    /// such interface.
     pub fn next_address(&self, index: u16, place: usize) -> Option<AddressTold>
         ensures { result ≡ next_address index place self.now }
     {

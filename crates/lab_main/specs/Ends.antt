@@ -1,5 +1,5 @@
--- What a run with an outcome did to its reader, which had `before` and has `after` left, and to its writer, which held `old`
--- and holds `new`.
+-- What a run with an outcome did to its reader, which had `before` and has `after` left, and to its writer, which held
+-- `old` and holds `new`.
 use Rattle.std.specs.Prelude.{◌≡◌, ◌≢◌, ◌≤◌, ◌⊎◌, Bool, true, false, List, [], ◌∷◌, ◌++◌, ℕ, Option, length}
 use Rattle.std.specs.Io.KnownBytes.{Appends, Consumes, IsAtEnd, Keeps}
 use Rattle.event_file.specs.Lines.{AreLines, has_newline, with_newlines}
@@ -32,7 +32,8 @@ pub record CutLast (before after : Option (List ℕ)) (lines : List (List ℕ)) 
 abbrev pub AreFirst : Option (List ℕ) → Option (List ℕ) → List (List ℕ) → List ℕ → Type 0
 AreFirst before after lines behind = Cut before after lines behind ⊎ (CutLast before after lines × (behind ≡ []))
 
--- and they are all; or those up to the one by which the text was quit, behind which no more was read than at once with it
+-- and they are all; or those up to the one by which the text was quit, behind which no more was read than at once with
+-- it
 abbrev pub AreAll : Option (List ℕ) → Option (List ℕ) → List (List ℕ) → State → Type 0
 AreAll before after lines last = (behind : List ℕ) × AreFirst before after lines behind
     × (((last.over ≡ true) × (length behind ≤ READ_ROOM)) ⊎ ((behind ≡ []) × IsAtEnd after))
@@ -79,8 +80,8 @@ pub record ToldLines (o : Shows) (before after old new : Option (List ℕ)) : Ty
   pub told : Told o fresh lines text last
   pub appends : Appends old new text
 
--- what a run did that ended with an outcome: how much it read, told and wrote. Where all lines were told, or a read failed, its
--- lab was left in this state, behind the last line that was told; of the other outcomes nothing is said of that
+-- what a run did that ended with an outcome: how much it read, told and wrote. Where all lines were told, or a read
+-- failed, its lab was left in this state, behind the last line that was told; otherwise nothing is said of the lab
 abbrev pub Ends : Shows → Outcome → Option (List ℕ) → Option (List ℕ) → Option (List ℕ) → Option (List ℕ) → State → Type 0
 Ends o Done before after old new last = ToldAll o before after old new last false
 Ends o BadLine before after old new last = ToldAll o before after old new last true

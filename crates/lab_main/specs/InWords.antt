@@ -16,8 +16,8 @@ use Rattle.lab_main.specs.Questions.{is_question}
 use Rattle.lab_main.specs.Telling.{State, Told, answer_to, fault_words, plainly, shown}
 use Rattle.lab_main.specs.declared.shows.Shows.{Shows}
 
--- a line, between two worlds, and how routesim responds to its plain line; to a question, an empty line and a comment it
--- responds nothing
+-- a line, between two worlds, and how routesim responds to its plain line; to a question, an empty line and a comment
+-- it responds nothing
 pub record Reply : Type 0 where
   pub before : World
   pub after : World

@@ -38,8 +38,8 @@ pub record Point : Type 0 where
   pub world : World
   pub refused : ℕ
 
--- what stands between two lines: the world, how often it was refused memory until then, how many lines were told, the numbers
--- of those that were bad, and whether `?quit` was among them
+-- what stands between two lines: the world, how often it was refused memory until then, how many lines were told, the
+-- numbers of those that were bad, and whether `?quit` was among them
 pub record State : Type 0 where
   pub world : World
   pub refused : ℕ
@@ -101,8 +101,8 @@ abbrev pub fault_words : List ℕ → Option LineFault → List ℕ
 fault_words line None = codes "bad\n"
 fault_words line (Some f) = wrong_by line f f.wanted
 
--- behind a front a step answers the command of a plain line, between two counts of refused memory; of a line that is none
--- it is told why
+-- behind a front a step answers the command of a plain line, between two counts of refused memory; of a line that is
+-- none it is told why
 abbrev pub ObeysBy : World → List ℕ → Option Command → List ℕ → List ℕ → World → ℕ → ℕ → Type 0
 ObeysBy old line None front body new before after =
     (body ≡ front ++ fault_words line (fault_in line)) × (new ≡ old) × (after ≡ before)
@@ -136,7 +136,8 @@ is_bad line =
 abbrev pub is_quit : List ℕ → Bool
 is_quit line = is_question line && ends_all (question_of line)
 
--- the line with its number, where lines are shown, and what is told of it, unless that is only `ok` and such aren't shown
+-- the line with its number, where lines are shown, and what is told of it, unless that is only `ok` and such aren't
+-- shown
 abbrev pub shown : Shows → ℕ → List ℕ → List ℕ → List ℕ
 shown o number line body =
     (if o.echo then echoed number line else [])

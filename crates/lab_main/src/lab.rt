@@ -14,8 +14,8 @@ use memory::Memory;
 use std::alloc::{AllocError, Global};
 use std::marker::Model;
 
-/// A machine to which lines are told. A contract sees its world and what that was refused, how many lines were told, which of
-/// them were bad, and whether it is over.
+/// A machine to which lines are told. A contract sees its world and what that was refused, how many lines were told,
+/// which of them were bad, and whether it is over.
 #[derive(Drop)]
 pub(crate) struct Lab {
     pub(crate) machine: Machine,
@@ -59,8 +59,8 @@ impl Lab {
         })
     }
 
-    /// Puts what is told of a line in the place of what `text` has; `body` is room for a part of it. Behind `?quit` no line is
-    /// told.
+    /// Puts what is told of a line in the place of what `text` has; `body` is room for a part of it. Behind `?quit` no
+    /// line is told.
     pub(crate) fn tell(
         &mut self,
         shows: Shows,

@@ -16,8 +16,8 @@ use std::alloc::{AllocError, Global};
 use std::marker::Model;
 use world_words::put_answer;
 
-/// A world, and how often it was refused memory: what is answered 55 is counted here, and never as a want of memory for what
-/// is told of it. A contract sees these two.
+/// A world, and how often it was refused memory: what is answered 55 is counted here, and never as a want of memory for
+/// what is told of it. A contract sees these two.
 #[derive(Drop)]
 pub(crate) struct Machine {
     pub(crate) world: World,

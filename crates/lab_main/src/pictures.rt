@@ -11,8 +11,8 @@ use std::fs;
 use std::io::Write;
 use std::rt::Files;
 
-/// Writes the tree into the files that are asked for, each in the place of what is there. `Err` has the outcome that it comes to
-/// where that can't be done.
+/// Writes the tree into the files that are asked for, each in the place of what is there. `Err` has the outcome that it
+/// comes to where that can't be done.
 pub(crate) fn write_pictures<R: Files + Eprint + AllocGlobal>(
     rt: &R,
     asked: &Asked<'_>,

@@ -1,5 +1,5 @@
-//! The program round a run: the file that its words name is read, standard output written, and standard error told of what
-//! went wrong.
+//! The program round a run: the file that its words name is read, standard output written, and standard error told of
+//! what went wrong.
 ghost use Rattle.std.specs.Prelude.{◌≡◌};
 ghost use Rattle.lab_main.specs.Telling.{fresh};
 
@@ -19,9 +19,9 @@ use std::io::{self, ErrorKind, Read};
 use std::process::ExitCode;
 use std::rt::Files;
 
-/// Tells the lines of the text that is asked for, writes the pictures that are, and answers the exit status. `at_terminal`
-/// says that standard input is one: then there is a prompt, and no line is shown again. The machine's refusals of memory are
-/// counted in `refusals`, and those of texts in `memory`.
+/// Tells the lines of the text that is asked for, writes the pictures that are, and answers the exit status.
+/// `at_terminal` says that standard input is one: then there is a prompt, and no line is shown again. The machine's
+/// refusals of memory are counted in `refusals`, and those of texts in `memory`.
 pub(crate) fn end_of_run<R: Files + Input + Print + Eprint + AllocGlobal>(
     rt: &R,
     asked: &Asked<'_>,
@@ -138,8 +138,8 @@ fn reason(why: Option<ErrorKind>) -> &'static str {
     }
 }
 
-/// Ends the program where its words ask for no run: help and the version go to standard output, what is wrong with the words
-/// to standard error.
+/// Ends the program where its words ask for no run: help and the version go to standard output, what is wrong with the
+/// words to standard error.
 pub(crate) fn end_refused<R: Print + Eprint>(rt: &R, error: &clap::Error) -> ExitCode {
     let _ = error.print(rt);
     match error.kind() {

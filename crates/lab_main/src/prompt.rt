@@ -4,8 +4,8 @@ ghost use Rattle.std.specs.Prelude.{◌≡◌};
 use itoa::Buffer;
 use std::io::{self, Read, Write};
 
-/// A reader that writes a prompt before each read, with the number of the line to come, and ends the prompt's line where the text
-/// ends. A fault of the writer is none of the reader's, and stays untold.
+/// A reader that writes a prompt before each read, with the number of the line to come, and ends the prompt's line
+/// where the text ends. A fault of the writer is none of the reader's, and stays untold.
 #[derive(Drop)]
 pub(crate) struct Prompting<R, W> {
     reader: R,

@@ -26,8 +26,8 @@ struct Texts {
 }
 
 /// Reads a text, and tells each line before the next is looked at; what was told is flushed before each read and at the
-/// end. A last line without a newline is told at the end of the text, but not where a read fault comes first. Behind `?quit`
-/// no line is told. Where there is no memory for what is told of a line, the run ends.
+/// end. A last line without a newline is told at the end of the text, but not where a read fault comes first. Behind
+/// `?quit` no line is told. Where there is no memory for what is told of a line, the run ends.
 pub(crate) fn run<R: Read, W: Write>(
     alloc: Global,
     shows: Shows,
@@ -48,8 +48,8 @@ pub(crate) fn run<R: Read, W: Write>(
     ensures prompt { reader.new.early_reads ≡ reader.old.early_reads }
     ensures flushed { writer.old.unflushed ≡ false → result ≢ Outcome.WriteFault → writer.new.unflushed ≡ false }
 
-    // A fault comes only where a read or a write failed, or where 2^64 - 1 bytes were read. A read fault behind which what
-    // was told can't be flushed is a write fault.
+    // A fault comes only where a read or a write failed, or where 2^64 - 1 bytes were read. A read fault behind which
+    // what was told can't be flushed is a write fault.
     ensures read_fault { result ≡ Outcome.ReadFault → (reader.new.failures ≡ 1)
         ⊎ Spent (R.remaining reader.old.inner) (R.remaining reader.new.inner) }
     ensures unfailed_reads { result ≢ Outcome.ReadFault → result ≢ Outcome.WriteFault → reader.new.failures ≡ 0 }

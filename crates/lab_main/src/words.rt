@@ -52,7 +52,8 @@ fn command<'a>(alloc: Global) -> Result<Command<'a>, Error> {
     Ok(command)
 }
 
-/// What these words ask for. `Err` tells help, the version, what is wrong with them, or that there is no memory for them.
+/// What these words ask for. `Err` tells help, the version, what is wrong with them, or that there is no memory for
+/// them.
 pub(crate) fn asked_by<'a>(alloc: Global, words: &'a [String]) -> Result<Asked<'a>, Error> {
     let matches = command(alloc)?.try_get_matches_from(words)?;
     let quiet = matches.get_flag("quiet");

@@ -111,8 +111,8 @@ impl Text {
         Ok(())
     }
 
-    /// Appends the destination of a route: the address of a host, a network as `10.0.0.0/8`, and `default` for that of all
-    /// addresses.
+    /// Appends the destination of a route: the address of a host, a network as `10.0.0.0/8`, and `default` for that of
+    /// all addresses.
     pub fn put_destination(
         &mut self,
         key: Inet,

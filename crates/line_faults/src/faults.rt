@@ -14,7 +14,8 @@ use route_core::MOST_WRITTEN;
 /// Which word of a line is wrong.
 #[derive(Clone, Copy, Debug, PartialEq, Eq)]
 pub struct LineFault {
-    /// Its place among the words, from 0 on: one past the last where a word is missing, and 0 where the line is too long.
+    /// Its place among the words, from 0 on: one past the last where a word is missing, and 0 where the line is too
+    /// long.
     pub place: usize,
     /// What is wanted there.
     pub wanted: Wanted,
@@ -173,8 +174,8 @@ fn fault_of_verb(verb: Verb, words: &mut Words) -> Option<LineFault>
     fault_behind(verb, 1 + kinds.len(), words, &mut room)
 }
 
-/// Which word of a line, without its newline, is wrong: the first that no line of the grammar has there behind the words
-/// before it. `None` just where the grammar has the line.
+/// Which word of a line, without its newline, is wrong: the first that no line of the grammar has there behind the
+/// words before it. `None` just where the grammar has the line.
 pub fn fault_of(line: &[u8]) -> Option<LineFault>
     ensures { result ≡ fault_in line.now }
 {

@@ -9,8 +9,8 @@ use lab_text::Text;
 use memory::Memory;
 use std::alloc::AllocError;
 
-/// Appends how a line with this verb is written and what that does, what each of its words is, and what may stand behind
-/// them, a line each. `Err`: there is no memory, which is counted.
+/// Appends how a line with this verb is written and what that does, what each of its words is, and what may stand
+/// behind them, a line each. `Err`: there is no memory, which is counted.
 pub fn put_help_on(text: &mut Text, verb: Verb, memory: &mut Memory) -> Result<(), AllocError>
     ensures put { OnOk result (text.new ≡ text.old ++ help_on verb) }
     ensures counted { Rises (is_err result) memory.old memory.new }

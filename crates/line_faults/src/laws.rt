@@ -6,8 +6,8 @@ pub fn faultless_is_command()
     ensures { FaultlessIsCommand }
 {}
 
-/// A fault is at a word of the line, or one past its last; a word that stands there isn't as it is wanted, and the words
-/// before it have no fault but that more is to come.
+/// A fault is at a word of the line, or one past its last; a word that stands there isn't as it is wanted, and the
+/// words before it have no fault but that more is to come.
 pub fn faulty_word_is_wrong()
     ensures place { FaultIsAtAWord }
     ensures wrong { FaultyWordIsWrong }

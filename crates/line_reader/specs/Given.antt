@@ -22,15 +22,16 @@ pub record Needed (before after : Option (List ℕ)) (old : List ℕ) : Type 0 w
   pub none : has_newline (old ++ early) ≡ false
   pub one_read : length last ≤ READ_ROOM
 
--- what was left over before, and then what was read, are the line, which has no newline in it, and what stands behind it
+-- what was left over before, and then what was read, are the line, which has no newline in it, and what stands behind
+-- it
 pub record Parted (before after : Option (List ℕ)) (old line behind : List ℕ) : Type 0 where
   pub read : List ℕ
   pub consumes : Consumes before after read
   pub parts : old ++ read ≡ line ++ behind
   pub whole : has_newline line ≡ false
 
--- of what was ahead, the front before a newline was put behind what had come of the line, and the next stands behind that; or
--- all of it was, where there is no newline
+-- of what was ahead, the front before a newline was put behind what had come of the line, and the next stands behind
+-- that; or all of it was, where there is no newline
 abbrev pub TookLine : Bool → List ℕ → List ℕ → List ℕ → List ℕ → Type 0
 TookLine true ahead next line new =
     (front : List ℕ) × (ahead ≡ front ++ 10 ∷ next) × (has_newline front ≡ false) × (new ≡ line ++ front)
@@ -40,8 +41,8 @@ TookLine false ahead next line new = (new ≡ line ++ ahead) × (has_newline ahe
 abbrev pub Spent : Option (List ℕ) → Option (List ℕ) → Type 0
 Spent before after = HasRead (2 ^ 64 - 1) before after
 
--- what has come of a line that was not read to its end, and what was read behind it, which is nothing but where the reads of a
--- call are spent
+-- what has come of a line that was not read to its end, and what was read behind it, which is nothing but where the
+-- reads of a call are spent
 pub record Begun (before after : Option (List ℕ)) (old line : List ℕ) : Type 0 where
   pub behind : List ℕ
   pub parted : Parted before after old line behind

@@ -61,8 +61,9 @@ impl LineReader {
         })
     }
 
-    /// Puts the next line in the place of what `line` has, and reads no more than it needs: only while there is no newline in
-    /// what has come. Before each read the writer is flushed, so that who reads it has seen all that was said of the lines before.
+    /// Puts the next line in the place of what `line` has, and reads no more than it needs: only while there is no
+    /// newline in what has come. Before each read the writer is flushed, so that who reads it has seen all that was
+    /// said of the lines before.
     pub fn next_line<R: Read, W: Write>(
         &mut self,
         line: &mut Vec<u8>,
@@ -111,8 +112,8 @@ impl LineReader {
         Err(Fault::Read)
     }
 
-    /// Appends what stands before the first newline of what was read, and takes it with its newline: `true`. Or, where there
-    /// is none, all that was read.
+    /// Appends what stands before the first newline of what was read, and takes it with its newline: `true`. Or, where
+    /// there is none, all that was read.
     fn take_line(&mut self, line: &mut Vec<u8>, memory: &mut Memory) -> Result<bool, AllocError>
         ensures took { IfOk result (λ ended. TookLine ended self.old self.new line.old.items line.new.items) }
         ensures ahead { length self.new ≤ READ_ROOM }

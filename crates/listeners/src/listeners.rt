@@ -156,8 +156,8 @@ impl Listeners {
         socket::deliver(&mut self.sockets, &message);
     }
 
-    /// Takes the messages that wait for a socket into the room, and leaves none; or EBADF where none of this id is open.
-    /// The bytes of the messages are lent from the room, one after another. It takes no memory.
+    /// Takes the messages that wait for a socket into the room, and leaves none; or EBADF where none of this id is
+    /// open. The bytes of the messages are lent from the room, one after another. It takes no memory.
     pub fn take<'a>(&mut self, id: Name, room: &'a mut Room) -> Result<&'a [u8], Errno>
         ensures whole { IfOk result (λ bytes. AreMessages bytes.now) }
         ensures messages { IfOk result (λ bytes. messages_of id self.old ≡ Some (cut bytes.now)) }
@@ -175,8 +175,8 @@ impl Listeners {
         }
     }
 
-    /// Moves the messages that wait for a socket into `queue`, whose own are lost, and leaves none; or EBADF where none of
-    /// this id is open. It takes no memory.
+    /// Moves the messages that wait for a socket into `queue`, whose own are lost, and leaves none; or EBADF where none
+    /// of this id is open. It takes no memory.
     pub fn move_to(&mut self, id: Name, queue: &mut Queue) -> Result<(), Errno>
         ensures messages { OnOk result (messages_of id self.old ≡ Some queue.new) }
         ensures taken { OnOk result (self.new ≡ taken id self.old) }
@@ -195,8 +195,8 @@ impl Listeners {
         }
     }
 
-    /// What the socket at this place is, in the order in which they were opened, from 0 on, or `None` where there are not so
-    /// many.
+    /// What the socket at this place is, in the order in which they were opened, from 0 on, or `None` where there are
+    /// not so many.
     pub fn socket(&self, place: usize) -> Option<SocketTold>
         ensures { result ≡ socket_told place self.now }
     {

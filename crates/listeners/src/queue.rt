@@ -8,8 +8,8 @@ use memory::Memory;
 use std::alloc::{AllocError, Global};
 use std::marker::Model;
 
-/// The messages that wait for a socket, or that one has read, one after another, in memory that it has from the start. A
-/// contract sees the messages, the oldest first.
+/// The messages that wait for a socket, or that one has read, one after another, in memory that it has from the start.
+/// A contract sees the messages, the oldest first.
 #[derive(Drop)]
 pub struct Queue {
     bytes: Vec<u8>,

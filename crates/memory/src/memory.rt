@@ -105,8 +105,8 @@ impl Memory {
         }
     }
 
-    /// Makes room for as many items more as a vector has, and for some beside: so that no more is asked for than is held already,
-    /// but for those.
+    /// Makes room for as many items more as a vector has, and for some beside: so that no more is asked for than is
+    /// held already, but for those.
     pub fn double<T>(&mut self, items: &mut Vec<T>, beside: usize) -> Result<(), AllocError>
         requires modest { beside ≤ MOST_ASKED }
         ensures items { items.new.items ≡ items.old.items }
@@ -164,8 +164,8 @@ impl Memory {
     }
 }
 
-/// Gives back the memory of a vector that its items don't need, but for some beside; all where it has no item. It asks for no more,
-/// and no count rises by it: where a smaller block can't be had, the vector keeps its own.
+/// Gives back the memory of a vector that its items don't need, but for some beside; all where it has no item. It asks
+/// for no more, and no count rises by it: where a smaller block can't be had, the vector keeps its own.
 pub fn give_back<T>(items: &mut Vec<T>, beside: usize)
     ensures items { items.new.items ≡ items.old.items }
     ensures less { vec_capacity items.new ≤ vec_capacity items.old }

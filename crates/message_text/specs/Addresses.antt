@@ -1,6 +1,6 @@
 -- The addresses of a message in words, each on a line of its own. An address that has exactly the bytes that are
--- written of an IPv4 address, of a mask or of a link-layer address is shown as that, and any other by its bytes, padding
--- included.
+-- written of an IPv4 address, of a mask or of a link-layer address is shown as that, and any other by its bytes,
+-- padding included.
 use Rattle.std.specs.Prelude.{ℕ, ◌+◌, ◌==◌, ◌&&◌, ◌||◌, nat_le, nat_lt, not, Bool, true, false, if◌then◌else◌, List, [], ◌∷◌, ◌++◌, length, take, drop, slice_index, codes, decimal, bytes_eq, Option, Some, None, Result, Ok, Err}
 use Rattle.std.specs.List.{list_all}
 use Rattle.hex.specs.Hex.{encode_lower}

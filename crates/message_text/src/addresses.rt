@@ -162,8 +162,8 @@ fn is_mask(bit: u32) -> bool
     bit == RTA_NETMASK || bit == RTA_GENMASK
 }
 
-/// Puts the line of the address of this bit, where it is there. `from` is where the text ends, and the bytes that are left
-/// of all addresses: it answers both behind the address.
+/// Puts the line of the address of this bit, where it is there. `from` is where the text ends, and the bytes that are
+/// left of all addresses: it answers both behind the address.
 #[inline(always)]
 #[tactic(auto, unfolding(crate::specs::Addresses::behind, crate::specs::Addresses::address_line))]
 fn put_next<'a>(

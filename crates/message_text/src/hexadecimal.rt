@@ -1,5 +1,5 @@
-//! Hexadecimal, written without branches or a table, so that the compiler takes as many bytes at a time as the processor
-//! does.
+//! Hexadecimal, written without branches or a table, so that the compiler takes as many bytes at a time as the
+//! processor does.
 ghost use Rattle.std.specs.Prelude.{◌≡◌, ◌+◌, ◌*◌, ◌/◌, ◌%◌, ◌≤◌, ◌++◌, length, slice_index};
 ghost use Rattle.hex.specs.Hex.{encode_lower, lower_digits};
 ghost use Rattle.message_text.specs.Room.{written};

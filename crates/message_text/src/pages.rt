@@ -1,5 +1,5 @@
-//! The room that a text is put into before it is kept: it is taken from there when the next line may have no room, so that
-//! a text that isn't long asks for memory once, and for no more than it has.
+//! The room that a text is put into before it is kept: it is taken from there when the next line may have no room, so
+//! that a text that isn't long asks for memory once, and for no more than it has.
 ghost use Rattle.std.specs.Prelude.{◌≡◌, ◌+◌, ◌≤◌, ◌++◌, IfOk, OnOk, length, is_err};
 ghost use Rattle.hex.specs.Hex.{encode_lower};
 ghost use Rattle.memory.specs.Refusing.{Rises};

@@ -55,7 +55,8 @@ pub(crate) fn body(message: &[u8]) -> &[u8]
     &message[header_size(message)..]
 }
 
-/// Why bytes are no message, the first reason that holds: their length, their version, or an address that passes the end.
+/// Why bytes are no message, the first reason that holds: their length, their version, or an address that passes the
+/// end.
 pub fn fault_of(message: &[u8]) -> Option<MsgErr>
     ensures fault { result ≡ fault_in message.now }
     ensures none { IfNone result (size_of_header message.now ≤ length message.now) }

@@ -15,9 +15,10 @@ use memory::Memory;
 use route_msgs::MsgErr;
 use std::alloc::{AllocError, Global};
 
-/// The text of a message, in lines of ASCII that each end in a newline: the type by its name and the other fields of its
-/// header, and then its addresses, each by its name. Bytes that are no message are shown in hexadecimal, with the first
-/// reason that holds: their length, their version, or an address that passes the end. Refused for want of memory alone.
+/// The text of a message, in lines of ASCII that each end in a newline: the type by its name and the other fields of
+/// its header, and then its addresses, each by its name. Bytes that are no message are shown in hexadecimal, with the
+/// first reason that holds: their length, their version, or an address that passes the end. Refused for want of memory
+/// alone.
 pub fn text_of(alloc: Global, message: &[u8]) -> Result<Vec<u8>, AllocError>
     ensures { IfOk result (λ shown. shown.items ≡ text message.now) }
 {

@@ -1,5 +1,5 @@
-//! Forms of a script's lines that are easier on people: flags by their names, and a dump of all there is room for. The plain
-//! line, which routesim takes, is made of them.
+//! Forms of a script's lines that are easier on people: flags by their names, and a dump of all there is room for. The
+//! plain line, which routesim takes, is made of them.
 #![tactic(auto)]
 
 pub mod laws;

@@ -12,7 +12,8 @@ abbrev pub of_kind : ErrorKind → Refusal
 of_kind OutOfMemory = NoMemory
 of_kind _ = Usage
 
--- what each refusal of these words of the program with this name says of them: there is a fault in them; or there is none, and they name a FILE
+-- what each refusal of these words of the program with this name says of them: there is a fault in them; or there is
+-- none, and they name a FILE
 abbrev pub Refuses : List ℕ → List Text → Refusal → Type 0
 Refuses name words Usage = faults_of name words ≢ []
 Refuses name words Unopened = (faults_of name words ≡ []) × (is_some (file_of name words) ≡ true)

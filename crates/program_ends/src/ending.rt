@@ -6,8 +6,8 @@ ghost use Rattle.program_ends.specs.Endings.{status_of_end};
 use crate::{Outcome, Refusal, fault_text, refusal_status, refusal_text, status};
 use std::process::ExitCode;
 
-/// Ends a program: tells standard error of the refusal, or of the outcome where the run is not done, behind the program's
-/// name. Answers the exit status.
+/// Ends a program: tells standard error of the refusal, or of the outcome where the run is not done, behind the
+/// program's name. Answers the exit status.
 pub fn end<R: Eprint>(rt: &R, program: &str, ended: Result<Outcome, Refusal>) -> ExitCode
     ensures { exit_status result ≡ status_of_end ended }
 {

@@ -58,8 +58,8 @@ fn words_in(
     Ok(words)
 }
 
-/// The FILE that the words of a program with this name name, or `None` where they name none. A word that begins with `-` and has more is an option,
-/// and refused; a first `--` is none and ends the options; `-` is a file of that name.
+/// The FILE that the words of a program with this name name, or `None` where they name none. A word that begins with
+/// `-` and has more is an option, and refused; a first `--` is none and ends the options; `-` is a file of that name.
 pub fn file_named<'a>(
     alloc: Global,
     program: &'a str,

@@ -1,5 +1,5 @@
-//! The blocks of memory of the lodged rooms: a value is put into one, taken out, read and lent. In no other file of the core,
-//! and of the programs, is a raw pointer followed; the library's handle has its own (`hoiskend/src/handle.rt`).
+//! The blocks of memory of the lodged rooms: a value is put into one, taken out, read and lent. In no other file of the
+//! core, and of the programs, is a raw pointer followed; the library's handle has its own (`hoiskend/src/handle.rt`).
 ghost use Rattle.std.specs.Prelude.{◌≡◌, ◌<◌, None, Some};
 ghost use Rattle.std.specs.Ordering.{nat_cmp};
 ghost use Rattle.std.specs.FinMap.{FinMap, code, empty, get, insert, remove, entries};

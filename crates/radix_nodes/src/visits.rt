@@ -5,8 +5,8 @@ use memory::Number;
 use std::marker::Model;
 use std::snapshot::Snapshot;
 
-/// A counter of visits to rooms, without bytes at run time. A contract sees the turn of the map that it is of, and
-/// its count. Only `Nodes::begin` makes one. Who looks for a room elsewhere counts each place where it looks as a visit.
+/// A counter of visits to rooms, without bytes at run time. A contract sees the turn of the map that it is of, and its
+/// count. Only `Nodes::begin` makes one. Who looks for a room elsewhere counts each place where it looks as a visit.
 #[derive(Drop)]
 pub struct Visits {
     turn: Snapshot<Number>,

@@ -20,8 +20,8 @@ use std_alloc::room::Vacant;
 impl<V> Nodes<V> {
     ghost use Rattle.radix_nodes.specs.LendingValue.{lends_value};
 
-    /// A room, which is none of those in the map: the one that is kept, or a new one. `Err` where there is no memory for
-    /// it.
+    /// A room, which is none of those in the map: the one that is kept, or a new one. `Err` where there is no memory
+    /// for it.
     pub fn make(&mut self, memory: &mut Memory) -> Result<Room<V>, AllocError>
         ensures stays { self.new ≡ self.old }
         ensures free { IfOk result (λ room. get self.old.lodged room ≡ None) }
@@ -98,8 +98,8 @@ impl<V> Nodes<V> {
         (room, value)
     }
 
-    /// Takes a room back, for the next one that is made; where one is kept already, that one is freed, and where no room is
-    /// lodged, both are. The map stays as it is.
+    /// Takes a room back, for the next one that is made; where one is kept already, that one is freed, and where no
+    /// room is lodged, both are. The map stays as it is.
     pub fn scrap(&mut self, room: Room<V>)
         ensures { self.new ≡ self.old }
     {

@@ -39,8 +39,8 @@ pair_reads = way_reads + chain_reads
 abbrev pub room_reads : ℕ
 room_reads = way_reads + chain_reads + 1 + (width + width)
 
--- of the best route's room by the index, which is asked for each rank, with a look at the ranks that are near; a way through
--- the tree reads less
+-- of the best route's room by the index, which is asked for each rank, with a look at the ranks that are near; a way
+-- through the tree reads less
 abbrev pub asked_reads : ℕ
 asked_reads = ranks * (pair_looks + 1)
 

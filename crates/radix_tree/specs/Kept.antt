@@ -28,8 +28,8 @@ module _ {V : Type 0} where
   abbrev pub AreCounted : List ℕ → List (Entry V) → Type 0
   AreCounted counts entries = (rank : ℕ) → rank ≤ host_rank → count_of rank counts ≡ of_rank rank entries
 
-  -- the rooms are a tree beneath the root, its routes are counted and found by the index, and each room has a number that
-  -- was given
+  -- the rooms are a tree beneath the root, its routes are counted and found by the index, and each room has a number
+  -- that was given
   pub record IsKept (nodes : Rooms V) (root : Option Node) (counts : List ℕ) (index : Held) (given : List (ℕ × ℕ)) (last : ℕ) : Type 0 where
     pub holds : Holds nodes.lodged root
     pub counted : AreCounted counts (shown nodes.lodged root)

@@ -40,8 +40,8 @@ pub(crate) fn leaf_for<V>(nodes: &Nodes<V>, from: Node, address: Inet, visits: &
     }
 }
 
-/// The first room of a leaf that is near an address, where the index has one. Asked for before all else that an addition looks
-/// at, it comes from memory meanwhile.
+/// The first room of a leaf that is near an address, where the index has one. Asked for before all else that an
+/// addition looks at, it comes from memory meanwhile.
 pub(crate) fn near_leaf<V>(
     nodes: &Nodes<V>,
     index: &Index,
@@ -61,8 +61,8 @@ pub(crate) fn near_leaf<V>(
     }
 }
 
-/// The leaf to which an address's bits lead from a root, by its first room. Where a room is near, the way begins there, and so
-/// passes few nodes, most of which an addition changes.
+/// The leaf to which an address's bits lead from a root, by its first room. Where a room is near, the way begins there,
+/// and so passes few nodes, most of which an addition changes.
 pub(crate) fn leaf_from<V>(
     nodes: &Nodes<V>,
     near: Option<Id>,
@@ -116,8 +116,8 @@ fn node_near<V>(nodes: &Nodes<V>, room: Id, address: Inet, visits: &mut Visits) 
     }
 }
 
-/// The node beneath the first bit node on the way up from a leaf whose bit is before this one, or at it that bit node itself:
-/// an address that has the bits of the leaf's key before this one comes by it.
+/// The node beneath the first bit node on the way up from a leaf whose bit is before this one, or at it that bit node
+/// itself: an address that has the bits of the leaf's key before this one comes by it.
 fn shared_above<V>(nodes: &Nodes<V>, leaf: Id, bit: u8, visits: &mut Visits) -> Node
     requires led { (key : ℕ) × (whole : Part nodes.now.lodged) × (whole.above ≡ None) × (whole.low ≡ 0)
         × LedTo key whole leaf }

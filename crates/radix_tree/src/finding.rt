@@ -1,5 +1,5 @@
-//! How a table finds the room of a route. That of a key and a rank is found by the index, while that is whole; that of the best
-//! route of an address likewise, where there are more than 256 routes. Else both are found by a way down the tree.
+//! How a table finds the room of a route. That of a key and a rank is found by the index, while that is whole; that of
+//! the best route of an address likewise, where there are more than 256 routes. Else both are found by the tree.
 ghost use Rattle.std.specs.Prelude.{◌≡◌, ◌≤◌, ℕ, Some, true};
 ghost use Rattle.mask_table.specs.Agreeing.{masked as masked_by};
 ghost use Rattle.mask_table.specs.RankSets.{HasRank};
@@ -18,7 +18,8 @@ use radix_nodes::{Id, Node, Nodes, Visits};
 use room_index::Index;
 use sock_addrs::Inet;
 
-/// After so many ranks that no route of the address has, it is looked which are near. Mostly the longest ranks have one.
+/// After so many ranks that no route of the address has, it is looked which are near. Mostly the longest ranks have
+/// one.
 const IN_VAIN: u8 = 1;
 
 /// The route of a table with this key and this rank, by its room.
@@ -66,9 +67,9 @@ pub(crate) fn find_best<V>(
     }
 }
 
-/// The best route by the index: it is asked for the address masked by each rank of which there are routes, from the greatest on;
-/// and once it was asked in vain, for such alone as routes near the address have. The `ranks` of its body is the set of those
-/// that are left, not the number of all ranks, which the contract names so (`specs/Bounds.antt`).
+/// The best route by the index: it is asked for the address masked by each rank of which there are routes, from the
+/// greatest on; and once it was asked in vain, for such alone as routes near the address have. The `ranks` of its body
+/// is the set of those that are left, not the number of all ranks, which the contract names so (`specs/Bounds.antt`).
 fn best_by_rank<V>(
     nodes: &Nodes<V>,
     index: &Index,
@@ -98,8 +99,8 @@ fn best_by_rank<V>(
     None
 }
 
-/// The ranks that are left to be asked for, once so many were in vain: of those the ones near the address, where that is worth
-/// the look.
+/// The ranks that are left to be asked for, once so many were in vain: of those the ones near the address, where that
+/// is worth the look.
 #[inline(always)]
 fn ranks_left(index: &Index, ranks: Ranks, asked: u8, address: Inet, visits: &mut Visits) -> Ranks
     ensures kept { (rank : ℕ) (room : IdName) → rank ≤ 33 → Names index.now (pair (masked_by rank address) rank) room → HasRank ranks rank

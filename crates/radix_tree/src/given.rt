@@ -7,8 +7,8 @@ use std::marker::Model;
 use std::mem;
 use std::snapshot::Snapshot;
 
-/// A room that came with its number, or, where it has none, one that went; and what was before. It is made for a moment,
-/// to be one change more. The first one, before which nothing was, is none.
+/// A room that came with its number, or, where it has none, one that went; and what was before. It is made for a
+/// moment, to be one change more. The first one, before which nothing was, is none.
 #[derive(Drop)]
 struct Change<V> {
     before: Option<Snapshot<Change<V>>>,

@@ -48,7 +48,8 @@ impl<V: Drop> Table<V> {
         }
     }
 
-    /// Takes back a room of this table in which no route stands. Where the table has no route, it keeps no memory for one.
+    /// Takes back a room of this table in which no route stands. Where the table has no route, it keeps no memory for
+    /// one.
     pub fn give_back(&mut self, room: Room<V>)
         requires made { room < self.old.next }
         requires free { uses room self.old.numbers ≡ 0 }
@@ -109,8 +110,8 @@ impl<V: Drop> Table<V> {
         }
     }
 
-    /// Takes the route with this key and rank out of the table and gives its room up. `None` where the table has no such
-    /// route.
+    /// Takes the route with this key and rank out of the table and gives its room up. `None` where the table has no
+    /// such route.
     pub fn remove(&mut self, key: Inet, rank: Rank) -> Option<V>
         ensures value { result ≡ option_map (λ e. e.value) (entry_at key rank self.old.entries) }
         ensures entries { self.new.entries ≡ without key rank self.old.entries }
@@ -158,8 +159,9 @@ impl<V: Drop> Table<V> {
         Some(self.nodes.value_mut(room))
     }
 
-    /// The value of the best route of an address, to be changed, or `None` where none agrees; the key and the rank of that
-    /// route are put into `pair`. It is found as by `best`, with a counter of the table's present turn, and begins no turn.
+    /// The value of the best route of an address, to be changed, or `None` where none agrees; the key and the rank of
+    /// that route are put into `pair`. It is found as by `best`, with a counter of the table's present turn, and begins
+    /// no turn.
     pub fn best_mut(
         &mut self,
         address: Inet,

@@ -1,4 +1,5 @@
--- Where a pair of a key and a rank is at home: in two of 2^bits buckets, under a tag. All three are parts of one number.
+-- Where a pair of a key and a rank is at home: in two of 2^bits buckets, under a tag. All three are parts of one
+-- number.
 use Rattle.std.specs.Prelude.{ℕ, ◌+◌, ◌-◌, ◌*◌, ◌/◌, ◌%◌, ◌^◌, nat_lt, if◌then◌else◌, max, bit_xor}
 use Rattle.room_index.specs.declared.homes.Homes.{Homes}
 

@@ -34,8 +34,8 @@ pub record IsKeptFor (h : Held) (pair : ℕ) (v : Vacancy) : Type 0 where
   pub free : standing h.tags h.entries v.place ≡ None
   pub home : IsHome h.bits v.place pair
 
--- The next four say what a change of an index leaves: what it names then is no more than is said, in any case; and all of that
--- where it is still whole, as it isn't once it was given up.
+-- The next four say what a change of an index leaves: what it names then is no more than is said, in any case; and all
+-- of that where it is still whole, as it isn't once it was given up.
 
 -- it has what it had; or it was given up
 pub record Keeps (old new : Held) : Type 0 where

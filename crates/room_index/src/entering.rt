@@ -11,10 +11,11 @@ use crate::tags::PLACES;
 use radix_nodes::Visits;
 
 impl Places {
-    /// A place that is free for an entry of a pair, in one of its homes. `None` where there is none: then all are given up.
+    /// A place that is free for an entry of a pair, in one of its homes. `None` where there is none: then all are given
+    /// up.
     ///
-    /// The pair is written there ahead of its room, so that the memory of the place, which hardly ever is at hand, comes
-    /// while that of the tree is waited for.
+    /// The pair is written there ahead of its room, so that the memory of the place, which hardly ever is at hand,
+    /// comes while that of the tree is waited for.
     #[inline(always)]
     pub(crate) fn place_for(&mut self, pair: u64, visits: &mut Visits) -> Option<usize>
         requires { IsTable self.old }
@@ -50,8 +51,8 @@ impl Places {
         self.put(place, Homes::of(entry.pair, self.bits).tag, entry);
     }
 
-    /// A free place in one of a pair's homes, in that of which the first free place is further to the front. Where both are
-    /// full, another entry makes way, if there is a place in its other home.
+    /// A free place in one of a pair's homes, in that of which the first free place is further to the front. Where both
+    /// are full, another entry makes way, if there is a place in its other home.
     #[inline(always)]
     fn vacant(&mut self, homes: &Homes, visits: &mut Visits) -> Option<usize>
         requires table { IsTable self.old }

@@ -88,10 +88,11 @@ impl Homes {
 /// The lowest bit of either bucket's number in that of `spread`.
 const SIDES: u64 = 1 << MOST_BITS | 1;
 
-/// A number that tells both buckets and the tag. It depends on all of the pair; but of keys that differ in their last two bits
-/// alone the buckets' numbers do too: so hosts that lie side by side have homes that do, and those who come or go in order read
-/// one line of memory for four of them. The rest is multiplied by an odd number near 2^64 over the golden ratio, by which what is
-/// near comes far apart (Knuth, The Art of Computer Programming, 6.4), in the upper half; which is folded into the lower one.
+/// A number that tells both buckets and the tag. It depends on all of the pair; but of keys that differ in their last
+/// two bits alone the buckets' numbers do too: so hosts that lie side by side have homes that do, and those who come or
+/// go in order read one line of memory for four of them. The rest is multiplied by an odd number near 2^64 over the
+/// golden ratio, by which what is near comes far apart (Knuth, The Art of Computer Programming, 6.4), in the upper
+/// half; which is folded into the lower one.
 #[inline(always)]
 fn spread(pair: u64) -> u64
     ensures { result ≡ spread pair }

@@ -23,8 +23,9 @@ use std::marker::Model;
 /// So few routes are found in few steps by a tree of them, all of which is at hand.
 const SMALL: usize = 256;
 
-/// The rooms of routes by their keys and ranks. A look-up takes the same few steps whatever the pairs are; where one finds no
-/// place, all are given up, and the index isn't whole until no route is left. Its memory follows the number of routes.
+/// The rooms of routes by their keys and ranks. A look-up takes the same few steps whatever the pairs are; where one
+/// finds no place, all are given up, and the index isn't whole until no route is left. Its memory follows the number of
+/// routes.
 ///
 /// A contract sees whether it is whole, and which room it has for which pair (`Names`).
 #[derive(Drop)]
@@ -87,8 +88,8 @@ impl Index {
         Some(entry.room)
     }
 
-    /// The room of a route whose key begins as this one does, where one is at hand and few others do: mostly of the one that
-    /// came last. It counts as one visit at least, and eight at most.
+    /// The room of a route whose key begins as this one does, where one is at hand and few others do: mostly of the one
+    /// that came last. It counts as one visit at least, and eight at most.
     #[inline(always)]
     pub fn near(&self, key: Inet, visits: &mut Visits) -> Option<Id>
         ensures near { IfSome result (λ room. (k : ℕ) × Names self.now k room) }
@@ -115,8 +116,8 @@ impl Index {
         self.places.used() <= SMALL
     }
 
-    /// Asks for the memory that one route more may take: that of a table twice as large, where this one is dense. Where it is
-    /// refused none is kept.
+    /// Asks for the memory that one route more may take: that of a table twice as large, where this one is dense. Where
+    /// it is refused none is kept.
     pub fn reserve(&mut self, memory: &mut Memory) -> Result<(), AllocError>
         ensures same { self.new ≡ self.old }
         ensures counted { Rises (is_err result) memory.old memory.new }
@@ -153,8 +154,8 @@ impl Index {
         self.ranges.reserve(memory)
     }
 
-    /// A place for the room of a route that is to come. Where the index isn't whole there is none, and where there is none
-    /// the index is given up.
+    /// A place for the room of a route that is to come. Where the index isn't whole there is none, and where there is
+    /// none the index is given up.
     #[inline(always)]
     pub fn vacancy(&mut self, key: Inet, rank: Rank, visits: &mut Visits) -> Option<Vacancy>
         ensures keeps { Keeps self.old self.new }

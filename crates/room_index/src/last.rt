@@ -40,8 +40,9 @@ impl Last {
     }
 }
 
-/// How many bits more than a range's the pairs of a slot are to share, and shared so far, by how many entries there are to so many
-/// slots that have one: as many more as leave it four where they lie close together, and fewer where each is alone.
+/// How many bits more than a range's the pairs of a slot are to share, and shared so far, by how many entries there are
+/// to so many slots that have one: as many more as leave it four where they lie close together, and fewer where each is
+/// alone.
 pub(crate) fn finer_by(finer: u32, entries: usize, used: usize) -> u32
     requires { finer ≤ 32 }
 {

@@ -1,6 +1,6 @@
-//! Where the room of each route is, by the route's key and rank: a table of places, each pair of which is at home in two
-//! buckets of eight. So a look-up reads the tags of sixteen places, whatever the pairs are; and where a pair finds no place,
-//! all are given up.
+//! Where the room of each route is, by the route's key and rank: a table of places, each pair of which is at home in
+//! two buckets of eight. So a look-up reads the tags of sixteen places, whatever the pairs are; and where a pair finds
+//! no place, all are given up.
 #![tactic(auto)]
 
 mod entering;

@@ -18,14 +18,15 @@ use std::alloc::{AllocError, Global};
 /// How many places there are at first, those of four buckets.
 pub(crate) const FEWEST: usize = 32;
 
-/// How many entries and tags there is memory for beside those that are there: 48 bytes. With what the C library puts before it each
-/// block is then as long as whole lines of the cache, so that rooms which are made after it lie in their lines as those before.
+/// How many entries and tags there is memory for beside those that are there: 48 bytes. With what the C library puts
+/// before it each block is then as long as whole lines of the cache, so that rooms which are made after it lie in their
+/// lines as those before.
 const ENTRIES_BESIDE: usize = 3;
 
 const TAGS_BESIDE: usize = 24;
 
-/// Places for entries, eight to each of 2^`bits` buckets, or none yet. Beside each entry, in a list of its own, stands its
-/// tag, or 0 where the place is free: so the tags of a bucket are read at once.
+/// Places for entries, eight to each of 2^`bits` buckets, or none yet. Beside each entry, in a list of its own, stands
+/// its tag, or 0 where the place is free: so the tags of a bucket are read at once.
 #[derive(Drop)]
 pub(crate) struct Places {
     tags: Vec<u16>,
@@ -73,7 +74,8 @@ impl Places {
 
     // ---- what is read
 
-    /// The place of a pair, and its entry. It reads the tags of both its homes, and looks at each entry that has the pair's.
+    /// The place of a pair, and its entry. It reads the tags of both its homes, and looks at each entry that has the
+    /// pair's.
     #[inline(always)]
     pub(crate) fn find(&self, pair: u64, visits: &mut Visits) -> Option<(usize, Entry)>
         requires { IsTable self.now }

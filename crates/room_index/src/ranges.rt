@@ -29,8 +29,8 @@ const RANKS_BESIDE: usize = 6;
 /// Of more pairs than so many, the way from one to the next is as long as that from the root.
 const CROWDED: u32 = 64;
 
-/// So many slots beside one another are looked at for a pair that is near: those of keys that differ in three bits at most, the
-/// last of those by which slots are parted. They lie in a few lines of memory.
+/// So many slots beside one another are looked at for a pair that is near: those of keys that differ in three bits at
+/// most, the last of those by which slots are parted. They lie in a few lines of memory.
 const BESIDE: usize = 8;
 
 /// So many bits has a key.
@@ -41,10 +41,10 @@ const WIDEST: u32 = 6;
 
 /// What is known of the entries of the table of places by the first bits of their keys.
 ///
-/// Of each of 2^`bits` ranges the ranks of all that are there, or were, so that no other rank is asked for. And of each of as
-/// many slots the entry that came last, or any where none has come since their number changed, so that a pair that is to come
-/// finds one whose key begins as its own does. Where all keys are of a few ranges the pairs of one are too many to be near each
-/// other: so those of a slot share `finer` bits more, of which the last `bits` number it.
+/// Of each of 2^`bits` ranges the ranks of all that are there, or were, so that no other rank is asked for. And of each
+/// of as many slots the entry that came last, or any where none has come since their number changed, so that a pair
+/// that is to come finds one whose key begins as its own does. Where all keys are of a few ranges the pairs of one are
+/// too many to be near each other: so those of a slot share `finer` bits more, of which the last `bits` number it.
 #[derive(Drop)]
 pub(crate) struct Ranges {
     last: Vec<Last>,
@@ -111,8 +111,8 @@ impl Ranges {
         low_bits(pair >> self.rest(), self.bits)
     }
 
-    /// The room of the pair that a pair's slot has, or one beside it, where that one's key begins as this one's does but for the
-    /// bits that part those slots, and the slot has few. It is one look at each slot.
+    /// The room of the pair that a pair's slot has, or one beside it, where that one's key begins as this one's does
+    /// but for the bits that part those slots, and the slot has few. It is one look at each slot.
     #[inline(always)]
     pub(crate) fn near(&self, pair: u64, visits: &mut Visits) -> Option<Id>
         requires { IsByRange self.now }
@@ -332,8 +332,8 @@ impl Ranges {
         Ok(())
     }
 
-    /// Has as many ranges as the table of places has buckets, where there is memory for them, and knows of each what the
-    /// table has.
+    /// Has as many ranges as the table of places has buckets, where there is memory for them, and knows of each what
+    /// the table has.
     #[inline(always)]
     pub(crate) fn follow(&mut self, places: &Places, visits: &mut Visits)
         requires table { IsTable places.now }
@@ -357,7 +357,8 @@ impl Ranges {
         }
     }
 
-    /// Has so many ranges, for which there is memory, and of each what the table has, of entries the last by their places.
+    /// Has so many ranges, for which there is memory, and of each what the table has, of entries the last by their
+    /// places.
     #[inline(never)]
     fn renew(&mut self, many: usize, places: &Places, visits: &mut Visits)
         requires table { IsTable places.now }

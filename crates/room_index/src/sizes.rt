@@ -11,8 +11,8 @@ use radix_nodes::Visits;
 /// How many bits the numbers of the first buckets have.
 const FEWEST_BITS: u32 = 2;
 
-/// So many entries for each bucket make a table dense. Then nearly all buckets have a free place, and an entry of one that
-/// has none mostly finds one in its other home.
+/// So many entries for each bucket make a table dense. Then nearly all buckets have a free place, and an entry of one
+/// that has none mostly finds one in its other home.
 const DENSE: usize = 5;
 
 impl Places {
@@ -23,7 +23,8 @@ impl Places {
         self.many() / PLACES <= self.used() / DENSE
     }
 
-    /// Whether they are few: not one for two buckets. Then hardly ever do two that become one have more than its places.
+    /// Whether they are few: not one for two buckets. Then hardly ever do two that become one have more than its
+    /// places.
     pub(crate) fn is_sparse(&self) -> bool
         ensures { result ≡ (nat_lt FEWEST_BITS self.now.bits && nat_lt self.now.used (length self.now.tags.items / BOTH)) }
     {
@@ -109,8 +110,8 @@ impl Places {
         }
     }
 
-    /// Makes the table smaller, where its entries are few for it. `false` where one finds no place there: then all are given
-    /// up.
+    /// Makes the table smaller, where its entries are few for it. `false` where one finds no place there: then all are
+    /// given up.
     pub(crate) fn shrink(&mut self, visits: &mut Visits) -> bool
         requires { IsTable self.old }
         ensures table { IsTable self.new }

@@ -12,8 +12,8 @@ pub(crate) const PLACES: usize = 8;
 /// How many two have.
 pub(crate) const BOTH: usize = 2 * PLACES;
 
-/// How many places of two buckets, of which the tags begin there, come before the first with this tag; all of them where none
-/// has it. It reads the tags of all at once, and counts a visit for each.
+/// How many places of two buckets, of which the tags begin there, come before the first with this tag; all of them
+/// where none has it. It reads the tags of all at once, and counts a visit for each.
 #[inline(always)]
 pub(crate) fn places_before(
     tags: &[u16],
@@ -44,8 +44,8 @@ pub(crate) fn places_before(
     }
 }
 
-/// How many places of a bucket, of which the tags begin there, come before the first free one; all of them where none is
-/// free. It reads the tags of all at once, and counts a visit for each.
+/// How many places of a bucket, of which the tags begin there, come before the first free one; all of them where none
+/// is free. It reads the tags of all at once, and counts a visit for each.
 #[inline(always)]
 pub(crate) fn used_before(tags: &[u16], begin: usize, visits: &mut Visits) -> usize
     requires { begin + PLACES ≤ length tags.now }

@@ -1,5 +1,5 @@
-//! What no clause says: that a pair is found once it was entered, that the table follows the number of its pairs, that an
-//! entry makes way for one more, and that pairs which share their homes are given up until none is left.
+//! What no clause says: that a pair is found once it was entered, that the table follows the number of its pairs, that
+//! an entry makes way for one more, and that pairs which share their homes are given up until none is left.
 ghost use Rattle.std.specs.Prelude.{◌<◌, ◌≤◌, ◌^◌, IfOk};
 
 use crate::Index;
@@ -39,8 +39,8 @@ impl Trial {
         Ok(())
     }
 
-    /// Enters so many networks, by their numbers from this one on, that are at home in these of four buckets. Gives the number
-    /// of the last.
+    /// Enters so many networks, by their numbers from this one on, that are at home in these of four buckets. Gives the
+    /// number of the last.
     fn enter_at_home(
         &mut self,
         first: usize,

@@ -47,8 +47,8 @@ writes_to id c = false
 abbrev pub matters : List ℕ → List Command → List ℕ → Bool
 matters x commands id = bytes_eq id x || list_any (writes_to id) commands
 
--- every `loopback`, `read` and `lost` of other ids is taken out, and every `open` and `close` of ids that aren't marked;
--- any other command is left
+-- every `loopback`, `read` and `lost` of other ids is taken out, and every `open` and `close` of ids that aren't
+-- marked; any other command is left
 abbrev pub is_left_where : List ℕ → (List ℕ → Bool) → Command → Bool
 is_left_where x marked (Open id pid protocol) = marked id
 is_left_where x marked (Close id) = marked id

@@ -44,7 +44,8 @@ pub fn left_out_for_room()
 {}
 
 /// An answer that there is no memory has a cause. A counted step is one of the machine's or one that finds
-/// no memory, answers so exactly where the count of refusals rose, and leaves the count where its command takes no memory.
+/// no memory, answers so exactly where the count of refusals rose, and leaves the count where its command takes no
+/// memory.
 pub fn no_memory_has_a_cause()
     ensures step { CountedIsAStep }
     ensures cause { AnswerHasACause }

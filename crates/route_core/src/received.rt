@@ -4,8 +4,8 @@ ghost use Rattle.route_core.specs.Held.{held_bytes};
 
 use std::marker::Model;
 
-/// Messages that a socket read, which are lent, or those of a dump, as bytes: whole messages, one after another, each of
-/// which begins with its length, two bytes, the high one first. A contract sees the list of messages.
+/// Messages that a socket read, which are lent, or those of a dump, as bytes: whole messages, one after another, each
+/// of which begins with its length, two bytes, the high one first. A contract sees the list of messages.
 #[derive(Debug, Drop)]
 pub struct Received<'a> {
     bytes: Held<'a>,

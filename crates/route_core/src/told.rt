@@ -49,23 +49,24 @@ impl RouteTold {
 }
 
 impl World {
-    /// The interface with this number, which is from 1 on in the order in which they were attached, or `None` where there is
-    /// none.
+    /// The interface with this number, which is from 1 on in the order in which they were attached, or `None` where
+    /// there is none.
     pub fn interface(&self, index: u16) -> Option<InterfaceTold>
         ensures { result ≡ interface_told index self.now.interfaces }
     {
         self.interfaces.interface(index)
     }
 
-    /// The first address, from this place on, of the interface with this number, or `None` where there is none; the first
-    /// place is 0. One that was removed is passed over.
+    /// The first address, from this place on, of the interface with this number, or `None` where there is none; the
+    /// first place is 0. One that was removed is passed over.
     pub fn next_address(&self, index: u16, place: usize) -> Option<AddressTold>
         ensures { result ≡ next_address index place self.now.interfaces }
     {
         self.interfaces.next_address(index, place)
     }
 
-    /// The socket at this place, which is from 0 on in the order in which they were opened, or `None` where there is none.
+    /// The socket at this place, which is from 0 on in the order in which they were opened, or `None` where there is
+    /// none.
     pub fn socket(&self, place: usize) -> Option<SocketTold>
         ensures { result ≡ socket_told place self.now.sockets }
     {
@@ -84,8 +85,8 @@ impl World {
         Some(RouteTold::of(&self.interfaces, &route))
     }
 
-    /// All routes, in table order: by rising keys, and of one key that of the host first and then the longest mask. `Err`
-    /// where there is no memory for them, which is counted. No use is counted.
+    /// All routes, in table order: by rising keys, and of one key that of the host first and then the longest mask.
+    /// `Err` where there is no memory for them, which is counted. No use is counted.
     pub fn routes(&mut self, memory: &mut Memory) -> Result<Vec<RouteTold>, AllocError>
         ensures told { IfOk result (λ routes. routes.items ≡ all_told self.old) }
         ensures kept { self.new ≡ self.old }

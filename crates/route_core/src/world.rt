@@ -138,8 +138,8 @@ impl World {
         self.answer_counted(said, memory)
     }
 
-    /// Takes one command that reads no socket, each by the call of its name; nothing of its answer is lent. The answer is
-    /// ENOBUFS exactly where memory was refused, which is counted.
+    /// Takes one command that reads no socket, each by the call of its name; nothing of its answer is lent. The answer
+    /// is ENOBUFS exactly where memory was refused, which is counted.
     // It is inlined, so that the answer is made in the caller's place: to move it took 9 to 60 instructions a line.
     #[inline(always)]
     pub fn answer_counted(&mut self, said: &Said<'_>, memory: &mut Memory) -> Answer<'static>
@@ -265,8 +265,8 @@ impl World {
         Ok(Answer::Messages(Received::lent(bytes), None))
     }
 
-    /// Takes the messages that a socket has heard, as `take` does, but moves them into `queue`, whose own are lost. EBADF:
-    /// it isn't open. It wants no memory.
+    /// Takes the messages that a socket has heard, as `take` does, but moves them into `queue`, whose own are lost.
+    /// EBADF: it isn't open. It wants no memory.
     #[tactic(auto, unfolding(crate::specs::Step::effect))]
     pub fn move_to(&mut self, id: Name, queue: &mut Queue) -> Result<(), Errno>
         ensures { IsStep self.old (Read id) (read_or_refused result queue.new) self.new }

@@ -33,8 +33,8 @@ is_long most s = is_link s && nat_lt most (length s)
 abbrev pub is_loose : ℕ → List ℕ → Bool
 is_loose most s = nat_le (link_size s) most && list_all (λ byte. byte == 0) (drop (link_size s) s)
 
--- its length byte there: a link-layer address that is too long is cut behind what it tells, and a mask of five bytes and
--- more has at least so many
+-- its length byte there: a link-layer address that is too long is cut behind what it tells, and a mask of five bytes
+-- and more has at least so many
 unfoldable pub length_as : Change → ℕ → List ℕ → ℕ
 length_as c k s =
     if is_mask k

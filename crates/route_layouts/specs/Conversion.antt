@@ -167,8 +167,8 @@ ConvertedIsRead = (from to : Layout) (m new : List ℕ) → IsLayout to → IsCo
     ≡ all_placed (in_order (its_header to m).places) (in_order (renumbered from to m)))
     × (drop (its_header to m).size new ≡ addresses_in from to m)
 
--- the addresses of a message that goes to another layout and back: cut and with more bytes as both have it, and with zeros
--- as padding
+-- the addresses of a message that goes to another layout and back: cut and with more bytes as both have it, and with
+-- zeros as padding
 abbrev pub settled_in : Layout → Layout → List ℕ → List ℕ
 settled_in from to m =
     bytes_by (λ k s. padded from.word (settled (change_of from to) (change_of to from) k s)) (change_of from to) m
@@ -179,8 +179,8 @@ abbrev pub PlainIsSettled : Type 0
 PlainIsSettled = (there back : Change) (k : ℕ) (s : List ℕ) → length s ≡ max (slice_index s 0) 1
     → length_as there k s ≡ slice_index s 0 → length_as back k s ≡ slice_index s 0 → settled there back k s ≡ s
 
--- a converted message can be read in its layout: it has each number that the layout has a place for, and its addresses go
--- back as they were, but for what is cut or has more bytes, with zeros as padding
+-- a converted message can be read in its layout: it has each number that the layout has a place for, and its addresses
+-- go back as they were, but for what is cut or has more bytes, with zeros as padding
 pub record GoesBack (from to : Layout) (m new : List ℕ) : Type 0 where
   pub known : has_kind new ≡ true
   pub says_length : has_length to new ≡ true

@@ -25,7 +25,8 @@ WrittenIsRead = (size : ℕ) (f : Fields Place) (o : Order) (numbers : Fields �
 abbrev pub header_of : Layout → ℕ → Header
 header_of l kind = if kind == RTM_NEWADDR || kind == RTM_DELADDR then l.ifa else l.route
 
--- a header that tells its message's type in byte 3, its length in two bytes, its version in one and its addresses in four
+-- a header that tells its message's type in byte 3, its length in two bytes, its version in one and its addresses in
+-- four
 pub record Tells (h : Header) : Type 0 where
   pub kind : h.places.kind ≡ record { offset = 3; width = 1 }
   pub size : h.places.length.width ≡ 2

@@ -1,6 +1,6 @@
--- The layouts of the systems, told as their headers declare them: the members of `struct rt_msghdr` of <net/route.h>, with
--- those of its `struct rt_metrics`, and of `struct ifa_msghdr` of <net/if.h>, one behind the other. No offset stands here:
--- a field's place follows from the members before it.
+-- The layouts of the systems, told as their headers declare them: the members of `struct rt_msghdr` of <net/route.h>,
+-- with those of its `struct rt_metrics`, and of `struct ifa_msghdr` of <net/if.h>, one behind the other. No offset
+-- stands here: a field's place follows from the members before it.
 use Rattle.std.specs.Prelude.{ℕ, ◌+◌, bytes_eq, codes, if◌then◌else◌, List, [], ◌∷◌}
 use Rattle.route_layouts.specs.declared.layout.Header.{Header}
 use Rattle.route_layouts.specs.declared.layout.Layout.{Layout}

@@ -41,7 +41,8 @@ fn is_mask(bit: usize) -> bool
     bit == RTAX_NETMASK || bit == RTAX_GENMASK
 }
 
-/// How many bytes of a link-layer address tell something: eight and its name, its address and its selector, at least 20.
+/// How many bytes of a link-layer address tell something: eight and its name, its address and its selector, at least
+/// 20.
 fn link_size(address: &[u8]) -> usize
     ensures { result ≡ size_told address.now }
 {

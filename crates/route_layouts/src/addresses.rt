@@ -32,8 +32,8 @@ fn is_there(message: &[u8], named: u64, bit: usize, at: usize) -> bool
     named >> bit & 1 == 1 && at < message.len()
 }
 
-/// The addresses behind a header of `start` bytes as the other layout has them. Their bytes are put into `bytes`, which is
-/// empty.
+/// The addresses behind a header of `start` bytes as the other layout has them. Their bytes are put into `bytes`, which
+/// is empty.
 pub(crate) fn convert_addresses(
     change: &Change,
     message: &[u8],

@@ -14,9 +14,9 @@ use crate::{Converted, FIELDS, Fault, Fields, Header, Layout, Order, Place};
 ///
 /// Refused in this order: `Kind` for a type that is none of 1 to 13, `Length` for fewer bytes than the header has or
 /// where the message or its header says another length than it has, `Version` for another version than the layout's,
-/// `Overrun` where the length byte of an address counts bytes past the end, and `Wide` where a place of the other layout
-/// has too few bytes for its number, or a link-layer address is too long there and can't be cut. What has no place there
-/// is left out.
+/// `Overrun` where the length byte of an address counts bytes past the end, and `Wide` where a place of the other
+/// layout has too few bytes for its number, or a link-layer address is too long there and can't be cut. What has no
+/// place there is left out.
 pub fn convert(
     from: &Layout,
     to: &Layout,

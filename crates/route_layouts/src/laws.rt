@@ -14,7 +14,8 @@ pub fn converted_is_read()
     ensures { ConvertedIsRead }
 {}
 
-/// A message that was converted is one in its layout, and goes back as it was, but for what the layout has no place for.
+/// A message that was converted is one in its layout, and goes back as it was, but for what the layout has no place
+/// for.
 pub fn there_and_back()
     ensures { ThereAndBack }
 {}

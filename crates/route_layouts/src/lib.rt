@@ -1,6 +1,6 @@
-//! Messages of the routing socket in the layouts of systems of today, and back: 4.4BSD's own, which the other crates read
-//! and write, and those of FreeBSD, OpenBSD, NetBSD and macOS. A layout is data, and one function turns a message of any
-//! into one of any other.
+//! Messages of the routing socket in the layouts of systems of today, and back: 4.4BSD's own, which the other crates
+//! read and write, and those of FreeBSD, OpenBSD, NetBSD and macOS. A layout is data, and one function turns a message
+//! of any into one of any other.
 #![tactic(auto)]
 
 mod address;

@@ -1,5 +1,5 @@
-//! The layouts as tables, a row for each field: `at!(OFFSET, WIDTH)`, both in bytes. specs/Systems.antt tells them again as
-//! the systems' headers declare them.
+//! The layouts as tables, a row for each field: `at!(OFFSET, WIDTH)`, both in bytes. specs/Systems.antt tells them
+//! again as the systems' headers declare them.
 
 use crate::{Fields, Header, Layout, Order, Place};
 

@@ -34,8 +34,8 @@ pub struct Parsed {
 }
 
 impl Parsed {
-    /// The bytes of the address at this place, of `places`, in the message that was taken apart, without padding; `None`
-    /// where the address is not there.
+    /// The bytes of the address at this place, of `places`, in the message that was taken apart, without padding;
+    /// `None` where the address is not there.
     pub fn address<'a>(&self, bit: usize, message: &'a [u8]) -> Option<&'a [u8]>
         requires bit { bit < RTAX_MAX }
         requires within { SlotsAreWithin (length message.now) self.now.slots }

@@ -122,9 +122,9 @@ fn find_ifa(
     )
 }
 
-/// The route that is asked for, where it can be added. Refused in this order: ENETUNREACH: no interface address is found
-/// for it; EEXIST: a route with its key and rank is there. It takes no memory, so that memory is taken for no route that
-/// is refused.
+/// The route that is asked for, where it can be added. Refused in this order: ENETUNREACH: no interface address is
+/// found for it; EEXIST: a route with its key and rank is there. It takes no memory, so that memory is taken for no
+/// route that is refused.
 pub fn plan_add(
     table: &Table<PackedRoute>,
     visits: &mut Visits,

@@ -87,7 +87,8 @@ pub(crate) fn take_out(table: &mut Table<PackedRoute>, key: Inet, rank: Rank)
     let _ = table.remove(key, rank);
 }
 
-/// Takes the route with this key and rank out of the table, gives its room up, and answers it. `None` where there is none.
+/// Takes the route with this key and rank out of the table, gives its room up, and answers it. `None` where there is
+/// none.
 pub(crate) fn take_pair(
     table: &mut Table<PackedRoute>,
     key: Inet,

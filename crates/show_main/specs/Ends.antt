@@ -26,7 +26,8 @@ pub record WroteFrontOf (text : List ℕ) (old new : Option (List ℕ)) : Type 0
   pub appends : Appends old new written
   pub whole : text ≡ written ++ unwritten
 
--- it wrote a front of what it would have written of the lines that were read to their ends, the last at the end of the text
+-- it wrote a front of what it would have written of the lines that were read to their ends, the last at the end of the
+-- text
 pub record ShowedFrontOf (before after old new : Option (List ℕ)) : Type 0 where
   pub read : List ℕ
   pub consumes : Consumes before after read
@@ -49,8 +50,8 @@ Ends ReadFault before after old new = ShowedEnded before after old new
 Ends WriteFault before after old new = ShowedFrontOf before after old new
 Ends NoMemory before after old new = ShowedFirst before after old new
 
--- how often memory was refused before a run with this outcome, and after it. A want of memory ends the run, with its own
--- outcome, or as a write fault where what was shown before it can't be flushed
+-- how often memory was refused before a run with this outcome, and after it. A want of memory ends the run, with its
+-- own outcome, or as a write fault where what was shown before it can't be flushed
 abbrev pub EndsCounted : Outcome → ℕ → ℕ → Type 0
 EndsCounted Done low high = high ≡ low
 EndsCounted BadLine low high = ⊥

@@ -25,8 +25,8 @@ fn value_of(byte: u8) -> u8
     }
 }
 
-/// Puts the bytes that the digits spell into `out`, which has room for just as many. `false` where some byte is no digit,
-/// which is looked at when all are read.
+/// Puts the bytes that the digits spell into `out`, which has room for just as many. `false` where some byte is no
+/// digit, which is looked at when all are read.
 pub(crate) fn decode(digits: &[u8], out: &mut [u8]) -> bool
     requires { length digits.now ≡ 2 * length out.old }
     ensures digits { result ≡ list_all is_lower_digit digits.now }

@@ -70,8 +70,8 @@ pub(crate) fn show_bytes<W: Write>(
     Ok(())
 }
 
-/// Shows the line that `front` ends, which begins with what had come of it, and leaves no line. A line that stands whole
-/// among the bytes that were read is shown from there.
+/// Shows the line that `front` ends, which begins with what had come of it, and leaves no line. A line that stands
+/// whole among the bytes that were read is shown from there.
 fn show_ended<W: Write>(
     alloc: Global,
     line: &mut Vec<u8>,

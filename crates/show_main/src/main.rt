@@ -1,5 +1,5 @@
-//! Writes a text with the routing messages in it as people read them: `routeshow [FILE]`, where the text, as a transcript
-//! of `routesim`, is FILE, or standard input where no FILE is named.
+//! Writes a text with the routing messages in it as people read them: `routeshow [FILE]`, where the text, as a
+//! transcript of `routesim`, is FILE, or standard input where no FILE is named.
 #![tactic(auto)]
 
 mod digits;

@@ -31,8 +31,8 @@ fn behind_word(line: &[u8]) -> Option<&[u8]>
     }
 }
 
-/// Puts the message that a line tells to the front of the room, and answers how many bytes it has. `None` where the line
-/// tells none, and where the message isn't short.
+/// Puts the message that a line tells to the front of the room, and answers how many bytes it has. `None` where the
+/// line tells none, and where the message isn't short.
 pub(crate) fn short_message(line: &[u8], room: &mut [u8; SHORT]) -> Option<usize>
     ensures message { IfSome result (λ size. message_told line.now ≡ Some (take size room.new)) }
     ensures size { IfSome result (λ size. size ≤ SHORT) }

@@ -1,5 +1,5 @@
-//! The flags of a route by which a search among addresses goes, as <net/route.h> names them. Those of messages have them
-//! too, with all others.
+//! The flags of a route by which a search among addresses goes, as <net/route.h> names them. Those of messages have
+//! them too, with all others.
 
 /// The destination is reached through a gateway.
 pub const RTF_GATEWAY: u16 = 0x2;

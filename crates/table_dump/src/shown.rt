@@ -158,8 +158,8 @@ fn put_addresses(key: Inet, rank: Rank, route: &PackedRoute, room: &mut [u8]) ->
     put_mask(route.genmask(), room, genmask)
 }
 
-/// Puts the message that shows a route of the interface with this index to the front of `room`, and answers how many bytes
-/// it takes. Each field and address is put straight to its place: a dump makes one message after the other there.
+/// Puts the message that shows a route of the interface with this index to the front of `room`, and answers how many
+/// bytes it takes. Each field and address is put straight to its place: a dump makes one message after the other there.
 #[inline(always)]
 pub(crate) fn put_shown(
     index: u16,

@@ -1,5 +1,5 @@
--- The tree as a picture in SVG, the root on top: what has a 0 at the bit of a bit node stands left of it, what has a 1 right of
--- it. No two boxes share a column, and an edge leads to the next row; so nothing overlaps.
+-- The tree as a picture in SVG, the root on top: what has a 0 at the bit of a bit node stands left of it, what has a 1
+-- right of it. No two boxes share a column, and an edge leads to the next row; so nothing overlaps.
 use Rattle.std.specs.Prelude.{ℕ, ◌+◌, max, List, [], ◌∷◌, ◌++◌, length, codes, decimal}
 use Rattle.lab_text.specs.Words.{destination_word}
 use Rattle.tree_pictures.specs.Tree.{Tree, leaf, fork, routes_of, tree_of, masks_of}
@@ -77,8 +77,8 @@ bit_svg b = line_svg (codes "bit " ++ decimal b)
 abbrev pub node_svg : List ℕ → ℕ → ℕ → ℕ → List Pair → List ℕ
 node_svg label column row b masks = box_start label column row ++ frame (length masks + 1) (codes " rx=\"7\"") ++ bit_svg b ++ lines_svg masks ++ box_end
 
--- a tree whose columns begin at this one, whose topmost box is in this row and has this label, and which is beneath a bit
--- node whose bit is the one before `low`; the box of a bit node comes last, so that it covers where its edges begin
+-- a tree whose columns begin at this one, whose topmost box is in this row and has this label, and which is beneath a
+-- bit node whose bit is the one before `low`; the box of a bit node comes last, so that it covers where its edges begin
 unfoldable pub picture : List ℕ → ℕ → ℕ → ℕ → Tree → List ℕ
 picture label start row low (leaf chain) = leaf_svg label start row chain
 picture label start row low (fork b zeros ones) =
@@ -88,7 +88,8 @@ picture label start row low (fork b zeros ones) =
     ++ picture one_label (start + columns zeros + 1) (row + 1) (b + 1) ones
     ++ node_svg label (start + columns zeros) row b (masks_of low b (routes_of zeros ++ routes_of ones))
 
--- how the picture begins: it has half a column more at each side, half a row above, and below what the longest chain takes
+-- how the picture begins: it has half a column more at each side, half a row above, and below what the longest chain
+-- takes
 abbrev pub svg_start : ℕ → ℕ → List ℕ
 svg_start width height = codes "<svg xmlns=\"http://www.w3.org/2000/svg\" viewBox=\"-100 -50 " ++ hundreds width ++ codes " " ++ hundreds height
     ++ codes "\" font-family=\"monospace\" font-size=\"8\" text-anchor=\"middle\">\n<style>rect,path{fill:white;stroke:black}</style>\n"

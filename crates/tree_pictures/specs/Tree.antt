@@ -1,5 +1,5 @@
--- The radix tree of a list of routes, of their keys and masks alone: a bit node tests one bit of a key, and a leaf holds
--- the routes of one key, which are a chain.
+-- The radix tree of a list of routes, of their keys and masks alone: a bit node tests one bit of a key, and a leaf
+-- holds the routes of one key, which are a chain.
 use Rattle.std.specs.Prelude.{◌≡◌, ℕ, zero, suc, ◌+◌, ◌-◌, ◌<◌, ◌≤◌, ◌↔◌, ◌==◌, Bool, cond, List, [], ◌∷◌, ◌++◌, find, Option, Contains}
 use Rattle.std.specs.List.{AllByRecursion, cons_option}
 use Rattle.std.specs.Option.{option_or}

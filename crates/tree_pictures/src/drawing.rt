@@ -16,9 +16,9 @@ use std::alloc::AllocError;
 /// The widest indentation: 5 columns for each bit.
 const MOST_INDENT: usize = 160;
 
-/// Appends the radix tree of routes in table order: a line for each bit node, with its bit and the masks that are listed
-/// there, and one for each leaf, with its chain; what is beneath a bit node stands under it, first what has a 0 at its bit,
-/// then what has a 1.
+/// Appends the radix tree of routes in table order: a line for each bit node, with its bit and the masks that are
+/// listed there, and one for each leaf, with its chain; what is beneath a bit node stands under it, first what has a 0
+/// at its bit, then what has a 1.
 pub fn put_tree(text: &mut Text, pairs: &[Pair], memory: &mut Memory) -> Result<(), AllocError>
     ensures put { OnOk result (text.new ≡ text.old ++ tree_text pairs.now) }
     ensures counted { Rises (is_err result) memory.old memory.new }
@@ -29,8 +29,8 @@ pub fn put_tree(text: &mut Text, pairs: &[Pair], memory: &mut Memory) -> Result<
     put_part(text, b"", pairs, 32, 0, memory)
 }
 
-/// Appends the tree of routes whose keys are the same but for their last bits, so many of them. The bit node above is of
-/// the bit before `low`.
+/// Appends the tree of routes whose keys are the same but for their last bits, so many of them. The bit node above is
+/// of the bit before `low`.
 fn put_part(
     text: &mut Text,
     indent: &[u8],

@@ -14,8 +14,8 @@ use lab_text::Text;
 use memory::Memory;
 use std::alloc::AllocError;
 
-/// Appends the radix tree of routes in table order as a graph that `dot` of Graphviz draws: a box for each bit node and each
-/// leaf, with the line that `put_tree` has for it, named by the sides of the way to it.
+/// Appends the radix tree of routes in table order as a graph that `dot` of Graphviz draws: a box for each bit node and
+/// each leaf, with the line that `put_tree` has for it, named by the sides of the way to it.
 pub fn put_graph(text: &mut Text, pairs: &[Pair], memory: &mut Memory) -> Result<(), AllocError>
     ensures put { OnOk result (text.new ≡ text.old ++ graph_text pairs.now) }
     ensures counted { Rises (is_err result) memory.old memory.new }
@@ -28,8 +28,8 @@ pub fn put_graph(text: &mut Text, pairs: &[Pair], memory: &mut Memory) -> Result
     text.put(b"}\n", memory)
 }
 
-/// Appends the tree of routes whose keys are the same but for their last bits, so many of them. The bit node above is of
-/// the bit before `low`.
+/// Appends the tree of routes whose keys are the same but for their last bits, so many of them. The bit node above is
+/// of the bit before `low`.
 fn put_part(
     text: &mut Text,
     name: &[u8],

@@ -10,8 +10,8 @@ pub fn leaves_are_the_list()
 {}
 
 /// The tree of a table's routes is a tree: bits rise on every way down, and all keys beneath a bit node are the same
-/// before its bit, which is 0 on the one side and 1 on the other. It is the only one with these routes from left to right,
-/// so the one that the table keeps in rooms has its shape.
+/// before its bit, which is 0 on the one side and 1 on the other. It is the only one with these routes from left to
+/// right, so the one that the table keeps in rooms has its shape.
 pub fn tree_is_the_table_s<V>()
     ensures tree { TablesHaveTrees V }
     ensures unique { TreesAreUnique }
@@ -20,8 +20,8 @@ pub fn tree_is_the_table_s<V>()
     table_order::<V>();
 }
 
-/// Each bit node of the tree of a table's routes lists all the masks of the routes beneath it that end at or before its bit
-/// and past that of the bit node above, and no others.
+/// Each bit node of the tree of a table's routes lists all the masks of the routes beneath it that end at or before its
+/// bit and past that of the bit node above, and no others.
 pub fn masks_are_listed<V>()
     ensures { TablesListTheirMasks V }
 {

@@ -8,8 +8,8 @@ use arrayvec::ArrayVec;
 /// How many masks a bit node can list: one of each length that ends at or before the last bit.
 pub(crate) const MOST_MASKS: usize = 32;
 
-/// The masks that the bit node of a bit lists, longest first, as the first routes beneath it that have them: those that end
-/// at or before the bit, and past that of the bit node above, which is before `low`.
+/// The masks that the bit node of a bit lists, longest first, as the first routes beneath it that have them: those that
+/// end at or before the bit, and past that of the bit node above, which is before `low`.
 pub(crate) fn masks(pairs: &[Pair], low: u8, bit: u8) -> ArrayVec<Pair, MOST_MASKS>
     requires rises { low ≤ bit }
     requires within { bit < 32 }

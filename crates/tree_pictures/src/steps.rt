@@ -14,9 +14,9 @@ use memory::Memory;
 use sock_addrs::Inet;
 use std::alloc::AllocError;
 
-/// Appends how the best route of an address is found in the radix tree of routes in table order: down by its bits to a leaf
-/// and along the chain, then up, and at each bit node along the masks that are listed there, until a route agrees; and
-/// which it is.
+/// Appends how the best route of an address is found in the radix tree of routes in table order: down by its bits to a
+/// leaf and along the chain, then up, and at each bit node along the masks that are listed there, until a route agrees;
+/// and which it is.
 pub fn put_find(
     text: &mut Text,
     address: Inet,
@@ -34,8 +34,8 @@ pub fn put_find(
     put_answer(text, address, best, memory)
 }
 
-/// Appends the steps in the tree of routes whose keys are the same but for their last bits, so many of them. The bit node
-/// above is of the bit before `low`.
+/// Appends the steps in the tree of routes whose keys are the same but for their last bits, so many of them. The bit
+/// node above is of the bit before `low`.
 fn put_way(
     text: &mut Text,
     address: Inet,

@@ -25,9 +25,9 @@ struct Place {
     row: u8,
 }
 
-/// Appends the radix tree of routes in table order as a picture in SVG: the root on top, what has a 0 at the bit of a bit node
-/// left of it, what has a 1 right of it, each box in a column of its own. A leaf's box has its chain; that of a bit node has
-/// round corners, its bit and the masks that are listed there.
+/// Appends the radix tree of routes in table order as a picture in SVG: the root on top, what has a 0 at the bit of a
+/// bit node left of it, what has a 1 right of it, each box in a column of its own. A leaf's box has its chain; that of
+/// a bit node has round corners, its bit and the masks that are listed there.
 pub fn put_svg(text: &mut Text, pairs: &[Pair], memory: &mut Memory) -> Result<(), AllocError>
     ensures put { OnOk result (text.new ≡ text.old ++ svg_text pairs.now) }
     ensures counted { Rises (is_err result) memory.old memory.new }
@@ -63,8 +63,8 @@ fn put_start(text: &mut Text, width: u64, height: u8, memory: &mut Memory) -> Re
     )
 }
 
-/// Appends the tree of routes whose keys are the same but for their last bits, so many of them. The bit node above is of
-/// the bit before `low`.
+/// Appends the tree of routes whose keys are the same but for their last bits, so many of them. The bit node above is
+/// of the bit before `low`.
 fn put_part(
     text: &mut Text,
     label: &[u8],

@@ -14,8 +14,8 @@ use route_core::{RouteTold, World};
 use sock_addrs::Inet;
 use std::alloc::AllocError;
 
-/// Appends the routes that agree with an address, the longest mask first, each with what it says; the first is taken. Or
-/// that none agrees. `world` has the interfaces that they lead out of. `Err`: there is no memory, which is counted.
+/// Appends the routes that agree with an address, the longest mask first, each with what it says; the first is taken.
+/// Or that none agrees. `world` has the interfaces that they lead out of. `Err`: there is no memory, which is counted.
 pub fn put_agreeing(
     text: &mut Text,
     address: Inet,

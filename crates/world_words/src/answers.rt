@@ -15,8 +15,8 @@ use route_msgs::flags::RTF_GATEWAY;
 use sock_addrs::Errno;
 use std::alloc::{AllocError, Global};
 
-/// Appends what a command was answered, in words, each line with a newline. `world` is the one after the command. `Err`:
-/// there is no memory, which is counted.
+/// Appends what a command was answered, in words, each line with a newline. `world` is the one after the command.
+/// `Err`: there is no memory, which is counted.
 pub fn put_answer(
     text: &mut Text,
     asked: &Said<'_>,

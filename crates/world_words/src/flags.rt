@@ -12,8 +12,8 @@ use route_msgs::flags::{
 };
 use std::alloc::AllocError;
 
-/// Appends the names of a route's flags with commas between them, as `UP,GATEWAY,STATIC`, and `none` where none is set that
-/// has a name. `Err`: there is no memory, which is counted.
+/// Appends the names of a route's flags with commas between them, as `UP,GATEWAY,STATIC`, and `none` where none is set
+/// that has a name. `Err`: there is no memory, which is counted.
 #[tactic(auto, using(crate::proofs::FlagNames::none_named))]
 pub fn put_flag_names(text: &mut Text, flags: u16, memory: &mut Memory) -> Result<(), AllocError>
     ensures put { OnOk result (text.new ≡ text.old ++ flags_word flags) }
@@ -39,8 +39,8 @@ fn put_names(text: &mut Text, flags: u16, memory: &mut Memory) -> Result<bool, A
     Ok(first)
 }
 
-/// Appends the name of a flag where it is set, behind a comma where it isn't the first, and answers whether the next one
-/// is the first.
+/// Appends the name of a flag where it is set, behind a comma where it isn't the first, and answers whether the next
+/// one is the first.
 #[tactic(auto, unfolding(message_text::specs::Names::name_of_bit, message_text::specs::Names::still_first))]
 fn put_name(
     text: &mut Text,

@@ -12,8 +12,9 @@ use route_core::{Facts, InterfaceTold, Kind, LinkAddress, World};
 use sock_addrs::Inet;
 use std::alloc::AllocError;
 
-/// Appends the interfaces by their numbers, each with its name, kind, type and link-layer address, and a line for each of
-/// its addresses: its network's length, its far end, and what its route is. `Err`: there is no memory, which is counted.
+/// Appends the interfaces by their numbers, each with its name, kind, type and link-layer address, and a line for each
+/// of its addresses: its network's length, its far end, and what its route is. `Err`: there is no memory, which is
+/// counted.
 pub fn put_interfaces(text: &mut Text, world: &World, memory: &mut Memory) -> Result<(), AllocError>
     ensures put { OnOk result (text.new ≡ text.old ++ interfaces_words world.now) }
     ensures counted { Rises (is_err result) memory.old memory.new }

@@ -11,8 +11,9 @@ use memory::Memory;
 use route_core::{SocketTold, World};
 use std::alloc::AllocError;
 
-/// Appends a line for each open socket: its id, its process, the protocol that it hears, whether it hears the replies to its own
-/// writes, how many bytes wait for it, and how many messages it lost. `Err`: there is no memory, which is counted.
+/// Appends a line for each open socket: its id, its process, the protocol that it hears, whether it hears the replies
+/// to its own writes, how many bytes wait for it, and how many messages it lost. `Err`: there is no memory, which is
+/// counted.
 pub fn put_sockets(text: &mut Text, world: &World, memory: &mut Memory) -> Result<(), AllocError>
     ensures put { OnOk result (text.new ≡ text.old ++ sockets_words world.now) }
     ensures counted { Rises (is_err result) memory.old memory.new }

@@ -12,9 +12,9 @@ use memory::Memory;
 use route_core::{RouteTold, World};
 use std::alloc::AllocError;
 
-/// Appends routes as a table, in the way of `netstat -rn`: a heading, and for each route a line of its destination, its gateway,
-/// its flags as letters, how many packets took it, and the interface that it leads out of. `Err`: there is no memory, which
-/// is counted.
+/// Appends routes as a table, in the way of `netstat -rn`: a heading, and for each route a line of its destination, its
+/// gateway, its flags as letters, how many packets took it, and the interface that it leads out of. `Err`: there is no
+/// memory, which is counted.
 pub fn put_table(
     text: &mut Text,
     routes: &[RouteTold],

@@ -88,8 +88,8 @@ impl Answerer {
         Ok(())
     }
 
-    /// Takes bytes up to and with the first newline, and answers the line that it ends, which is answered where it stands
-    /// if all of it is among them. Answers how many bytes it took.
+    /// Takes bytes up to and with the first newline, and answers the line that it ends, which is answered where it
+    /// stands if all of it is among them. Answers how many bytes it took.
     fn answer_next<W: Write>(
         &mut self,
         line: &mut LineBuffer,
