@@ -1,4 +1,5 @@
--- Each answer that there is no memory has its cause, and where nothing has, the text is the one that the machine computes.
+-- Each answer that there is no memory has its cause, and where nothing has, the text is the one that the machine
+-- computes.
 use Rattle.std.proofs.Common.{◌≡◌, ◌≢◌, ◌≤◌, ◌∙◌, ◌+◌, ℕ, codes, List, [], ◌∷◌, Option, Some, None, Result, Ok, Err, arith, inl, inr, refl, sym, ap, subst}
 use Rattle.sock_addrs.specs.declared.errno.Errno.{Errno}
 use Rattle.sock_addrs.specs.declared.errno.Errno.TheVariants.{ENOBUFS, ENOMEM}

@@ -1,4 +1,5 @@
--- How many words the forms have: too few are none, and so are more than 34 behind `route` and than 5 behind another verb.
+-- How many words the forms have: too few are none, and so are more than 34 behind `route` and than 5 behind another
+-- verb.
 use Prim.Native.String.{String}
 use Rattle.std.proofs.Common.{◌≡◌, ◌<◌, ◌≤◌, ◌+◌, ◌*◌, ℕ, Bool, true, false, cond, List, [], ◌∷◌, length, refl, arith, codes, bytes_eq, Option, Some, None}
 use Rattle.std.specs.Prelude.{⊤}

@@ -1,4 +1,5 @@
--- A script leads from the empty world to worlds alone: each line's command is in its ranges, and each step keeps a world.
+-- A script leads from the empty world to worlds alone: each line's command is in its ranges, and each step keeps a
+-- world.
 use Rattle.std.proofs.Common.{◌≡◌, ◌<◌, ℕ, suc, List, [], ◌∷◌, Option, Some, None, sym, subst}
 use Rattle.std.specs.Prelude.{Result, Ok, Err}
 use Rattle.std.specs.List.{AllByRecursion}

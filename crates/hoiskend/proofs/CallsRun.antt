@@ -13,8 +13,8 @@ use Rattle.route_core.specs.declared.answer.Answer.{Answer}
 use Rattle.hoiskend.specs.Sessions.{Answers, Call, Asks, Says, Looks, Calls, HeedsWhere, Obeys, Replies, Serves, Session, code_of, fresh, is_short}
 use Rattle.hoiskend.specs.Runs.{Called, CallsAreARun, Coded, HaveMemory, Made, coded_of, coded_turn, command_by, said_unless, with_command}
 
--- one call: the machine's step of its command, which memory was refused where its answer says so; or, where it has none,
--- nothing
+-- one call: the machine's step of its command, which memory was refused where its answer says so; or, where it has
+-- none, nothing
 abbrev TurnBy : Session → Option Command → ℕ → Session → Type 0
 TurnBy old None code new = (new.world ≡ old.world) × (new.refused ≡ old.refused)
 TurnBy old (Some command) code new = (answer : Answer) × Steps old.world command answer new.world × (code ≡ code_of answer) × Rises (lacks_memory answer) old.refused new.refused

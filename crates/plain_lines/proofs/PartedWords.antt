@@ -1,5 +1,5 @@
--- Parts of a text between the bytes of a value have no such byte, and parts that have none are parted again where they are
--- joined by it.
+-- Parts of a text between the bytes of a value have no such byte, and parts that have none are parted again where they
+-- are joined by it.
 use Rattle.std.proofs.Common.{◌≡◌, ◌∙◌, ◌&&◌, ℕ, Bool, true, false, cond, List, [], ◌∷◌, refl, ap, ◌==◌}
 use Rattle.std.specs.Prelude.{not}
 use Rattle.std.specs.List.{All, join_with_byte, list_all, onto_first}

@@ -8,7 +8,8 @@ use Rattle.radix_tree.proofs.Words.{forks_at, HasHome, AreOnce, IsMarked, IsMask
 use Rattle.radix_tree.proofs.Words.{up_to_bit, KeepsLeaves, KeepsBits, Lodged, number_of}
 
 module _ {V : Type 0} where
-  -- the masks of a part, once those of its bit node that are past a bit are listed there, and the others are a list of their own
+  -- the masks of a part, once those of its bit node that are past a bit are listed there, and the others are a list of
+  -- their own
   pub record IsCut (m new : Lodged V) (low bit : ℕ) (t : Tree V) (first : Option Id) : Type 0 where
     pub leaves : KeepsLeaves m new
     pub bits : KeepsBits m new

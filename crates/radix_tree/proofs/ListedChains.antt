@@ -40,8 +40,8 @@ module _ {V : Type 0} where
   chain_left L above previous key top c is stands = search arith
 
   -- ---- the walk
-  -- in the rooms of m, whose leaves the rooms of now have too: what is left of the chain of a key; all routes of this key
-  -- that may be late are there
+  -- in the rooms of m, whose leaves the rooms of now have too: what is left of the chain of a key; all routes of this
+  -- key that may be late are there
   pub record Left (m now : Lodged V) (root : Node) (late : ℕ → Bool) (key : ℕ) (at : Option Id) : Type 0 where
     pub later : ℕ → Bool
     pub whole : IsWholeBut now root later nobody_out

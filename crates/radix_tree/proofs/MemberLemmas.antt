@@ -1,4 +1,5 @@
--- What stands in a table, what holds of all its entries, and what is found among them; and all this with or without an entry.
+-- What stands in a table, what holds of all its entries, and what is found among them; and all this with or without an
+-- entry.
 use Rattle.radix_tree.proofs.ListLemmas.{all_weaker, all_both, all_append, all_passed, all_filter, all_find, find_filter, or_none}
 use Rattle.radix_tree.proofs.TableLemmas.{later, same, sooner, with_parts, without_absent, all_behind, none_at}
 use Rattle.radix_tree.proofs.OrderLemmas.{stands_before, stands_behind, pair_is, own_pair, other_pair, not_pair}

@@ -35,7 +35,8 @@ module _ {V : Type 0} where
   lists_at H K low (on_zero room b one ∷ fs) t lists = lists_at H K (b + 1) fs t lists.1
   lists_at H K low (on_one room b zero ∷ fs) t lists = lists_at H K (b + 1) fs t lists.2
 
-  -- what an exchange keeps beside a part and above it: the heads of lists, the masks aside, and those of ranks below top, which are not the part's to list
+  -- what an exchange keeps beside a part and above it: the heads of lists, the masks aside, and those of ranks below
+  -- top, which are not the part's to list
   pub record KeepsAbove (H G : Heads) (K J : Masks) (top : ℕ) (fs : List (Frame V)) (t u : Tree V) : Type 0 where
     pub heads : (n : ℕ) → 1 + forks_at n t ≤ forks_at n (plug fs t) → G n ≡ H n
     pub aside : (y : Placed V) → Aside fs y → J (number_of y.room) ≡ K (number_of y.room)

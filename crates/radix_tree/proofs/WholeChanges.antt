@@ -132,7 +132,8 @@ module _ {V : Type 0} where
         (keeps_above f)) (grind arith)
         (subst (λ n. MarkedLists (heads_in new) (masks_in new) n under.tree) e.lowest f.lists)))
 
-    -- a route of the other part has a home in the whole where it has one in the part, or its rank is before the part's bits
+    -- a route of the other part has a home in the whole where it has one in the part, or its rank is before the part's
+    -- bits
     home_in_new : (y : Placed V) → IsIn y under.tree
         → (y.entry.rank < at.low) ⊎ HasHome y.entry.key y.entry.rank under.tree → HasHome y.entry.key y.entry.rank (plug e.frames under.tree)
     home_in_new y is home =

@@ -1,4 +1,5 @@
--- Adding a route whose pair isn't there keeps the others, and a route whose interface address is of the interfaces keeps them so.
+-- Adding a route whose pair isn't there keeps the others, and a route whose interface address is of the interfaces
+-- keeps them so.
 use Rattle.std.proofs.Common.{◌≡◌, List, [], ◌∷◌, Option, Some, None, refl, sym, ap, ◌∙◌}
 use Rattle.std.specs.Prelude.{IfSome, unwrap_or}
 use Rattle.radix_tree.specs.Table.{Contents, IsTable, entry_at, with_entry, without}

@@ -45,7 +45,8 @@ line_says verb words said short lack says =
     let line = join_with_byte 32 (verb ∷ words) in
     cond-false _ None (said_by (parted_by 32 line)) (le-ltb most_line_bytes (length line) short) ∙ ap said_by (parted-joined 32 verb words lack) ∙ says
 
--- the words behind `addr` are an address with its name, where the options say whether its route clones and which the far address is
+-- the words behind `addr` are an address with its name, where the options say whether its route clones and which the
+-- far address is
 address_says : (name : List ℕ) (address prefix : ℕ) (cloning : Bool) (far : Option ℕ) → IsWithinBounds (AddAddress name address prefix cloning far)
     → add_address_form (name ∷ network_word address prefix ∷ (far_words far ++ cloning_words cloning)) ≡ Some (AddAddress name address prefix cloning far)
 address_says name address prefix cloning far can =

@@ -57,7 +57,8 @@ lay_spec 𝓤 𝓛 𝓜 𝓡 wired =
     -- [the cell; what the session owns; nothing; the right to free; obs; the borrow; the tokens]
     use2 𝓛 (‵ (part_at R full_share x b o)) (part_in 𝓛 R refl full_share x b o v) $ move ! (0 ∷ 2 ∷ []) $ fjoin ! $ move ! (4 ∷ []) $ split ! $ move ! (4 ∷ 5 ∷ 0 ∷ []) $
     opens ! tt B {h = d} rb ro (λ vs. move ! (1 ∷ []) $ peeks ! B _ (shows 𝓛 B) d vs (λ is. fsplit ! $
-    -- [what the field owns; what the handle owned; the handle's cell; the open borrow, in three entries; nothing; what it owns now; nothing]
+    -- [what the field owns; what the handle owned; the handle's cell; the open borrow, in three entries; nothing; what
+    -- it owns now; nothing]
     let word = lowers.val_is d vs is in rewrite ! 2 (λ (us : List Val). ‵ (cell_at full_share B.mir us rb ro)) word refl $
     assigns ! (of_opd ! (get ! refl)) (through ! refl (fld ! refl (stop !))) (store_in ! 2 (sub ! 0 refl (whole !)) (tt, tt)) $
     sets ! (of_opd ! (unit_lit !)) refl (tt, tt) $

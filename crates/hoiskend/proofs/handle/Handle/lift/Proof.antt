@@ -65,14 +65,16 @@ lift_spec 𝓤 𝓛 𝓜 𝓡 wired =
     let word = lowers.val_is d vs is ∙ ap (λ (p : Ptr). lowers.lowered (record d { at = p }) ∷ []) e in
     let Cell = λ (us : List Val). ‵ (cell_at full_share B.mir us rb ro) in
     rewrite ! 3 Cell word refl $
-    -- [the session; the right to free; what the field owns; the cell; the open borrow, in three entries; nothing; what the allocator owns; nothing]
+    -- [the session; the right to free; what the field owns; the cell; the open borrow, in three entries; nothing; what
+    -- the allocator owns; nothing]
     sets ! (of_opd ! (load ! (through ! refl (fld ! refl (stop !))) (look_in ! 3 (sub ! 0 refl (whole !))))) refl (tt, tt) $
     sets ! (of_opd ! (get ! refl)) refl (tt, tt) $
     use1 𝓛 (some (λ (v : Val). given (Good (lone R.mir) v) (‵ (fat full_share (lone R.mir) b o v) ⊛ ‵ (R.own_val x (v ∷ []))))) (value_out 𝓛 x b o) $ pick ! (λ v. learn ! (λ good. split ! $
     first ! $ blocks ! $ sets_last ! (of_opd ! (load ! (through ! refl (stop !)) (look ! 0 refl))) refl good $ exec ! 𝓣.C 𝓣.Λ En' (after 3 fn.body) (at_ret En' Post) $
     sets ! (of_opd ! (get ! refl)) refl good $
     assigns ! (of_opd ! (lit ! tt)) (through ! refl (fld ! refl (stop !))) (store_in ! 4 (sub ! 0 refl (whole !)) (tt, record { fits = lit< tt })) $
-    -- [the block's cell; what the session owns; the right to free; what the field owned; the handle's cell; the open borrow, in three entries; ..]
+    -- [the block's cell; what the session owns; the right to free; what the field owned; the handle's cell; the open
+    -- borrow, in three entries; ..]
     move ! (3 ∷ []) $ drop ! $ feq_i ! Ptr null_ptr null_ptr refl $ field_made ! null_ptr $ fjoin ! $ move ! (4 ∷ 0 ∷ 5 ∷ 6 ∷ 7 ∷ []) $
     closes ! tt B new (handle_val null_ptr ∷ []) rb ro $ move ! (3 ∷ 4 ∷ []) $
     sets ! (of_opd ! (get ! refl)) refl good $

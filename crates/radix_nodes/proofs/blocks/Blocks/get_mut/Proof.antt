@@ -84,7 +84,8 @@ get_mut_spec 𝓤 𝓛 𝓜 𝓡 wired T L =
     first ! $ blocks ! $ sets ! (is ! (of_opd ! (get_in ! (fld ! refl (stop !)) (sub ! 0 refl (whole !)))) (ap ptr_val e)) refl (tt, tt) $
     sets_last ! (addr ! (through ! refl (stop !))) refl (tt, tt) $
     exec ! 𝓣.C 𝓣.Λ (env fn.locals l) (after 1 fn.body) (at_ret (env fn.locals l) Post) $ sets ! (of_opd ! (get ! refl)) refl (tt, tt) $
-    -- [the value; the right to free it; the other blocks; what the field owns; the cell; the open borrow; obs; auth; a token; nothing]
+    -- [the value; the right to free it; the other blocks; what the field owns; the cell; the open borrow; obs; auth; a
+    -- token; nothing]
     move ! (3 ∷ 4 ∷ []) $ fjoin ! $ move ! (2 ∷ 3 ∷ 0 ∷ []) $ fjoin3 ! $ move ! (2 ∷ 3 ∷ 4 ∷ 1 ∷ 0 ∷ []) $ group ! 5 $
     let rest = sem 𝓛 (Rest R 𝓛 d (number_of id) id.block vs rb ro b o) in let way = back R 𝓛 d (number_of id) id.block vs rb ro b o e in let code = B.coded.code d in
     use1 𝓛 (later (some (λ (δ : GName). raw (Part 𝓛 B R new (named 0) κs.0 qs.0 rb ro b o self.ghost_name rest way x δ))))
