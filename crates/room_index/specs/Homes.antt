@@ -1,6 +1,6 @@
 -- Where a pair of a key and a rank is at home: in two of 2^bits buckets, under a tag. All three are parts of one
 -- number.
-use Rattle.std.specs.Prelude.{ℕ, ◌+◌, ◌-◌, ◌*◌, ◌/◌, ◌%◌, ◌^◌, nat_lt, if◌then◌else◌, max, bit_xor}
+use Rattle.std.specs.Prelude.{ℕ, ◌+◌, ◌-◌, ◌*◌, ◌/◌, ◌%◌, ◌^◌, nat_lt, if◌then◌else◌, bit_xor}
 use Rattle.room_index.specs.declared.homes.Homes.{Homes}
 
 -- the number of a pair, whose rank is below 64
@@ -11,17 +11,20 @@ pair key rank = key * 64 + rank
 abbrev side : ℕ → ℕ
 side pair = pair / 64 % 4
 
--- multiplied by an odd number near 2^64 over the golden ratio, and its upper half folded into the lower one
-abbrev folded : ℕ → ℕ
-folded product = bit_xor product (product / 2 ^ 32)
+-- multiplied by an odd number near 2^64 over the golden ratio, and the upper half folded into the lower one
+unfoldable pub folded : ℕ → ℕ
+folded number = let product = number * 0x9E37_79B9_7F4A_7C15 % 2 ^ 64 in bit_xor product (product / 2 ^ 32)
 
--- hosts that differ in these two bits alone have numbers that do, in the lowest bits of either home
+-- hosts that differ in these two bits alone have numbers that do, in the lowest bits of either home; networks of more
+-- than two addresses, whose ranks are below 31, have neither
 unfoldable pub spread : ℕ → ℕ
-spread pair = bit_xor (folded ((pair - side pair * 64) * 0x9E37_79B9_7F4A_7C15 % 2 ^ 64)) (side pair * (2 ^ 24 + 1))
+spread pair =
+    if nat_lt (pair % 64) 31 then folded pair
+    else bit_xor (folded (pair - side pair * 64)) (side pair * (2 ^ 24 + 1))
 
--- the tag, which isn't 0
+-- the tag, which is odd, so that it isn't 0
 abbrev pub tag_of : ℕ → ℕ
-tag_of pair = max (spread pair / 2 ^ 48) 1
+tag_of pair = spread pair / 2 ^ 49 * 2 + 1
 
 abbrev pub first_home : ℕ → ℕ → ℕ
 first_home bits pair = spread pair % 2 ^ bits

@@ -1,6 +1,6 @@
 //! Where a pair of a key and a rank is at home.
 ghost use Rattle.std.specs.Prelude.{◌≡◌, ◌+◌, ◌*◌, ◌≤◌, ◌<◌, ◌%◌, ◌^◌, ◌⊎◌, MatchBool};
-ghost use Rattle.room_index.specs.Homes.{pair, spread, homes, place_of};
+ghost use Rattle.room_index.specs.Homes.{pair, folded, spread, homes, place_of};
 
 use crate::tags::{BOTH, PLACES};
 use mask_table::Rank;
@@ -27,7 +27,7 @@ pub(crate) fn rank_of(pair: u64) -> Rank
     Rank::new((pair % 64).min(33) as u8)
 }
 
-/// The two buckets in which a pair is at home, and the tag that its place has there, which isn't 0.
+/// The two buckets in which a pair is at home, and the tag that its place has there, which is odd: a free place has 0.
 #[derive(Clone, Copy)]
 pub(crate) struct Homes {
     pub(crate) tag: u16,
@@ -44,7 +44,7 @@ impl Homes {
     {
         let spread = spread(pair);
         Homes {
-            tag: ((spread >> 48) as u16).max(1),
+            tag: (spread >> 49) as u16 * 2 + 1,
             first: low_bits(spread, bits),
             second: low_bits(spread >> MOST_BITS, bits),
         }
@@ -88,18 +88,34 @@ impl Homes {
 /// The lowest bit of either bucket's number in that of `spread`.
 const SIDES: u64 = 1 << MOST_BITS | 1;
 
+/// The least rank whose keys may have one of their last two bits.
+const LAST_BITS: u64 = 31;
+
 /// A number that tells both buckets and the tag. It depends on all of the pair; but of keys that differ in their last
 /// two bits alone the buckets' numbers do too: so hosts that lie side by side have homes that do, and those who come or
-/// go in order read one line of memory for four of them. The rest is multiplied by an odd number near 2^64 over the
-/// golden ratio, by which what is near comes far apart (Knuth, The Art of Computer Programming, 6.4), in the upper
-/// half; which is folded into the lower one.
+/// go in order read one line of memory for four of them. A network of more than two addresses has neither bit in its
+/// key.
 #[inline(always)]
+#[tactic(auto, unfolding(crate::specs::Homes::spread))]
 fn spread(pair: u64) -> u64
     ensures { result ≡ spread pair }
 {
+    if pair % 64 < LAST_BITS {
+        return folded(pair);
+    }
     let side = pair / 64 % 4;
-    let product = (pair - side * 64).wrapping_mul(0x9E37_79B9_7F4A_7C15);
-    product ^ product >> 32 ^ side * SIDES
+    folded(pair - side * 64) ^ side * SIDES
+}
+
+/// Multiplied by an odd number near 2^64 over the golden ratio, by which what is near comes far apart (Knuth, The Art
+/// of Computer Programming, 6.4), in the upper half; which is folded into the lower one.
+#[inline(always)]
+#[tactic(auto, unfolding(crate::specs::Homes::folded))]
+fn folded(number: u64) -> u64
+    ensures { result ≡ folded number }
+{
+    let product = number.wrapping_mul(0x9E37_79B9_7F4A_7C15);
+    product ^ product >> 32
 }
 
 /// The lowest bits of a number.
