@@ -15,11 +15,11 @@ side pair = pair / 64 % 4
 unfoldable pub folded : ℕ → ℕ
 folded number = let product = number * 0x9E37_79B9_7F4A_7C15 % 2 ^ 64 in bit_xor product (product / 2 ^ 32)
 
--- hosts that differ in these two bits alone have numbers that do, in the lowest bits of either home; networks of more
--- than two addresses, whose ranks are below 31, have neither
+-- of hosts, whose ranks are 32 and 33, those that differ in these two bits alone have numbers that do, in the lowest
+-- bits of either home
 unfoldable pub spread : ℕ → ℕ
 spread pair =
-    if nat_lt (pair % 64) 31 then folded pair
+    if nat_lt (pair % 64) 32 then folded pair
     else bit_xor (folded (pair - side pair * 64)) (side pair * (2 ^ 24 + 1))
 
 -- the tag, which is odd, so that it isn't 0

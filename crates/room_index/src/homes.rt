@@ -88,19 +88,18 @@ impl Homes {
 /// The lowest bit of either bucket's number in that of `spread`.
 const SIDES: u64 = 1 << MOST_BITS | 1;
 
-/// The least rank whose keys may have one of their last two bits.
-const LAST_BITS: u64 = 31;
+/// The least rank of a host.
+const HOSTS: u64 = 32;
 
-/// A number that tells both buckets and the tag. It depends on all of the pair; but of keys that differ in their last
-/// two bits alone the buckets' numbers do too: so hosts that lie side by side have homes that do, and those who come or
-/// go in order read one line of memory for four of them. A network of more than two addresses has neither bit in its
-/// key.
+/// A number that tells both buckets and the tag. It depends on all of the pair; but of hosts that differ in their last
+/// two bits alone the buckets' numbers do too: so those that lie side by side have homes that do, and those who come or
+/// go in order read one line of memory for four of them.
 #[inline(always)]
 #[tactic(auto, unfolding(crate::specs::Homes::spread))]
 fn spread(pair: u64) -> u64
     ensures { result ≡ spread pair }
 {
-    if pair % 64 < LAST_BITS {
+    if pair % 64 < HOSTS {
         return folded(pair);
     }
     let side = pair / 64 % 4;
