@@ -38,7 +38,8 @@ impl Made {
         requires way { IsWay way.now }
         requires modest { place.now.messages ≤ MOST_MESSAGES }
         ensures out { OnOk result (self.new.out.items ≡ self.old.out.items ++ converted_piece way.now piece.now) }
-        ensures told { OnOk result (self.new.told.items ≡ self.old.told.items ++ told_piece way.now place.now piece.now) }
+        ensures told { OnOk result (self.new.told.items
+            ≡ self.old.told.items ++ told_piece way.now place.now piece.now) }
         ensures message { IfOk result (λ found. found ≡ is_some (message_in way.now.read piece.now)) }
         ensures err_out { OnErr result (Begins self.old.out.items self.new.out.items) }
         ensures err_told { OnErr result (Begins self.old.told.items self.new.told.items) }

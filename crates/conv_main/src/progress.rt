@@ -116,7 +116,8 @@ impl Progress {
             ++ converted_piece way.now self.old.piece.items) }
         ensures told { OnOk result (self.new.made.told.items ≡ self.old.made.told.items
             ++ told_piece way.now self.old.place self.old.piece.items) }
-        ensures err { OnErr result ((self.new.place ≡ self.old.place) × (self.new.made.out.items ≡ self.old.made.out.items)
+        ensures err { OnErr result ((self.new.place ≡ self.old.place)
+            × (self.new.made.out.items ≡ self.old.made.out.items)
             × (self.new.made.told.items ≡ self.old.made.told.items)) }
         ensures counted { Rises (is_err result) memory.old memory.new }
     {

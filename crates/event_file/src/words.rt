@@ -87,7 +87,8 @@ pub(crate) fn if_written<'w, T, F: FnOnce(&'w [u8]) -> Option<T> + Drop>(
     read: F,
 ) -> Option<Option<T>>
     requires { F.IsAlwaysCallable read }
-    ensures written { IfSome word.entry (λ w. (said : Option T) × F.post read w said × (result ≡ option_map Some said)) }
+    ensures written { IfSome word.entry
+        (λ w. (said : Option T) × F.post read w said × (result ≡ option_map Some said)) }
     ensures unwritten { IfNone word.entry (result ≡ Some None) }
 {
     match word {

@@ -65,9 +65,11 @@ fn answer_command(
     memory: &mut Memory,
 ) -> Result<Turn, AllocError>
     requires { body.old ≡ [] }
-    ensures obeys { OnOk result (Obeys machine.old.world (plain_of line.now) (plainly line.now) body.new machine.new.world
+    ensures obeys { OnOk result (Obeys machine.old.world (plain_of line.now)
+        (plainly line.now) body.new machine.new.world
         machine.old.refused machine.new.refused) }
-    ensures turn { IfOk result (λ turn. (is_bad_turn turn ≡ is_none (command_of (plain_of line.now))) × (is_last_turn turn ≡ false)) }
+    ensures turn { IfOk result (λ turn. (is_bad_turn turn ≡ is_none (command_of (plain_of line.now)))
+        × (is_last_turn turn ≡ false)) }
     ensures counted { Rises (is_err result) memory.old memory.new }
 {
     let mut plain = Text::new(alloc);

@@ -70,7 +70,8 @@ impl Machine {
         memory: &mut Memory,
     ) -> Result<Turn, AllocError>
         ensures obeys { OnOk result (Obeys self.old.world line.now body.old body.new self.new.world self.old.refused self.new.refused) }
-        ensures turn { IfOk result (λ turn. (is_bad_turn turn ≡ is_none (command_of line.now)) × (is_last_turn turn ≡ false)) }
+        ensures turn { IfOk result (λ turn. (is_bad_turn turn ≡ is_none (command_of line.now))
+            × (is_last_turn turn ≡ false)) }
         ensures counted { Rises (is_err result) memory.old memory.new }
     {
         obey(
@@ -99,7 +100,8 @@ fn obey(
 ) -> Result<Turn, AllocError>
     requires { length written.old ≡ MOST_WRITTEN }
     ensures obeys { OnOk result (Obeys world.old line.now body.old body.new world.new refusals.old refusals.new) }
-    ensures turn { IfOk result (λ turn. (is_bad_turn turn ≡ is_none (command_of line.now)) × (is_last_turn turn ≡ false)) }
+    ensures turn { IfOk result (λ turn. (is_bad_turn turn ≡ is_none (command_of line.now))
+        × (is_last_turn turn ≡ false)) }
     ensures counted { Rises (is_err result) memory.old memory.new }
 {
     let Some(said) = &read_said(line.as_bytes(), written) else {

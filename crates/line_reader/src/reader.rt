@@ -82,7 +82,8 @@ impl LineReader {
         ensures begun { result ≡ Err Fault.Read → Begun (R.remaining reader.old.inner) (R.remaining reader.new.inner)
             self.old line.new.items }
         ensures fault { IfErr result (λ _. Consumed (R.remaining reader.old.inner) (R.remaining reader.new.inner)) }
-        ensures needed { (reader.new ≡ reader.old) ⊎ Needed (R.remaining reader.old.inner) (R.remaining reader.new.inner) self.old }
+        ensures needed { (reader.new ≡ reader.old)
+            ⊎ Needed (R.remaining reader.old.inner) (R.remaining reader.new.inner) self.old }
         ensures none_behind { result ≡ Ok Next.Last → self.new ≡ [] }
         ensures none_left { result ≡ Ok Next.End → self.new ≡ [] }
         ensures ahead { result ≡ Ok Next.Line → length self.new ≤ READ_ROOM }

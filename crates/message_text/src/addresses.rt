@@ -128,7 +128,8 @@ fn after(bit: u32, addrs: u32, bytes: &[u8]) -> Option<&[u8]>
 
 /// Whether no address passes the end. `None` where one does.
 pub(crate) fn have_room(addrs: u32, bytes: &[u8]) -> Option<()>
-    ensures { MatchOption result (one_passes places addrs bytes.now ≡ true) (λ _. one_passes places addrs bytes.now ≡ false) }
+    ensures { MatchOption result (one_passes places addrs bytes.now ≡ true)
+        (λ _. one_passes places addrs bytes.now ≡ false) }
 {
     let bytes = after(RTA_DST, addrs, bytes)?;
     let bytes = after(RTA_GATEWAY, addrs, bytes)?;

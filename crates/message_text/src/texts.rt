@@ -53,7 +53,8 @@ fn put_fault(
     memory: &mut Memory,
 ) -> Result<usize, AllocError>
     requires { length room.old ≡ ROOM }
-    ensures text { IfOk result (λ end. so_far out.new.items room.new end ≡ out.old.items ++ fault_text fault.now message.now) }
+    ensures text { IfOk result (λ end. so_far out.new.items room.new end
+        ≡ out.old.items ++ fault_text fault.now message.now) }
     ensures place { IfOk result (λ end. end ≤ ROOM) }
     ensures counted { Rises (is_err result) memory.old memory.new }
 {

@@ -15,7 +15,8 @@ use std::alloc::AllocError;
 /// may be named, and in a `flags` line; the room of a dump may be `all`. Every other line stays as it is.
 pub fn put_plain(text: &mut Text, line: &[u8], memory: &mut Memory) -> Result<bool, AllocError>
     ensures put { OnOk result (text.new ≡ text.old ++ plain_of line.now) }
-    ensures other { IfOk result (λ other. MatchBool other (plain_of line.now ≢ line.now) (plain_of line.now ≡ line.now)) }
+    ensures other { IfOk result (λ other. MatchBool other (plain_of line.now ≢ line.now)
+        (plain_of line.now ≡ line.now)) }
     ensures counted { Rises (is_err result) memory.old memory.new }
 {
     let from = text.len();

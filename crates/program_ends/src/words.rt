@@ -39,7 +39,8 @@ fn words_in(
     given: io::Result<Args>,
     memory: &mut Memory,
 ) -> Result<Vec<String>, Refusal>
-    ensures words { IfOk given (λ words. MatchResult result (λ all. all.items ≡ into_iter_items words) (λ why. why ≡ NoMemory)) }
+    ensures words { IfOk given (λ words. MatchResult result (λ all. all.items ≡ into_iter_items words)
+        (λ why. why ≡ NoMemory)) }
     ensures memory { IfErr given (λ error. error_kind error ≡ ErrorKind.OutOfMemory → result ≡ Err NoMemory) }
     ensures other { IfErr given (λ error. error_kind error ≢ ErrorKind.OutOfMemory → result ≡ Err Usage) }
     ensures counted { IfOk given (λ _. Rises (is_err result) memory.old memory.new) }
@@ -65,7 +66,8 @@ pub fn file_named<'a>(
     program: &'a str,
     words: &'a [String],
 ) -> Result<Option<&'a str>, Refusal>
-    ensures named { IfOk result (λ file. option_map (λ f. f.now) file ≡ file_of program.now (map string_bytes words.entry.now)) }
+    ensures named { IfOk result (λ file. option_map (λ f. f.now) file
+        ≡ file_of program.now (map string_bytes words.entry.now)) }
     ensures right { IfOk result (λ _. faults_of program.now (map string_bytes words.entry.now) ≡ []) }
     ensures refused { IfErr result (λ why. (why ≡ NoMemory)
         ⊎ ((why ≡ Usage) × (faults_of program.now (map string_bytes words.entry.now) ≢ []))) }

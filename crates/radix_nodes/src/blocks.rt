@@ -49,14 +49,16 @@ impl<T> Blocks<T> {
     /// The same empty block, which is none of those that are held: what is in one place has one owner. It does nothing.
     pub(crate) fn apart(&mut self, room: Vacant<T, Global>) -> Vacant<T, Global>
         requires { AreStarts self.old.cells × (0 < type_size T.row) }
-        ensures { (result ≡ room) × IsStart room.ptr × (get self.old.cells (number_at room.ptr) ≡ None) × (self.new ≡ self.old) }
+        ensures { (result ≡ room) × IsStart room.ptr × (get self.old.cells (number_at room.ptr) ≡ None)
+            × (self.new ≡ self.old) }
     {
         room
     }
 
     /// Writes a value into an empty block, which is held from now on under the number of its place.
     pub(crate) fn put(&mut self, room: Vacant<T, Global>, value: T) -> Id
-        ensures { (result ≡ record { block = room.ptr }) × (self.new.cells ≡ insert self.old.cells (number_of result) (result.block, value)) }
+        ensures { (result ≡ record { block = room.ptr })
+            × (self.new.cells ≡ insert self.old.cells (number_of result) (result.block, value)) }
     {
         let Vacant { ptr, alloc: _ } = room;
         unsafe {

@@ -34,8 +34,10 @@ impl<V> Nodes<V> {
     /// What stands in a room. It counts as one visit.
     fn visit(&self, id: Id, visits: &mut Visits) -> &Full<V>
         requires there { Has self.now.lodged id }
-        ensures links { (room : Seen V) → get self.now.lodged (number_of id) ≡ Some room → result.now.links ≡ room.links }
-        ensures value { (room : Seen V) → get self.now.lodged (number_of id) ≡ Some room → result.now.value ≡ room.value }
+        ensures links { (room : Seen V) → get self.now.lodged (number_of id) ≡ Some room
+            → result.now.links ≡ room.links }
+        ensures value { (room : Seen V) → get self.now.lodged (number_of id) ≡ Some room
+            → result.now.value ≡ room.value }
         ensures visit { visits.new ≡ record visits.old { count = visits.old.count + 1 } }
     {
         visits.tick();

@@ -98,7 +98,8 @@ fn rename<V>(
     requires turn { visits.old.turn ≡ nodes.old.turn }
     ensures root { result ≡ root_past previous above (LeafOf to) root }
     ensures only { OnlyBits nodes.old.lodged nodes.new.lodged }
-    ensures bits { (n : ℕ) → bits_in nodes.new.lodged n ≡ child_named above key (LeafOf to) n (bits_in nodes.old.lodged n) }
+    ensures bits { (n : ℕ) → bits_in nodes.new.lodged n
+        ≡ child_named above key (LeafOf to) n (bits_in nodes.old.lodged n) }
     ensures stays { Stays nodes.old nodes.new visits.old visits.new }
 {
     name_child(nodes, above, key, Node::Leaf(to), visits);

@@ -103,7 +103,8 @@ fn best_by_rank<V>(
 /// is worth the look.
 #[inline(always)]
 fn ranks_left(index: &Index, ranks: Ranks, asked: u8, address: Inet, visits: &mut Visits) -> Ranks
-    ensures kept { (rank : ℕ) (room : IdName) → rank ≤ 33 → Names index.now (pair (masked_by rank address) rank) room → HasRank ranks rank
+    ensures kept { (rank : ℕ) (room : IdName) → rank ≤ 33 → Names index.now (pair (masked_by rank address) rank) room
+        → HasRank ranks rank
         → HasRank result rank }
     ensures visits { Reads visits.old visits.new 1 }
 {

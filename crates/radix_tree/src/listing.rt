@@ -83,7 +83,8 @@ fn list_late<V>(nodes: &mut Nodes<V>, room: Id, visits: &mut Visits)
 /// node for them.
 pub(crate) fn list_chain<V>(nodes: &mut Nodes<V>, first: Id, visits: &mut Visits)
     requires whole { (root : Named) × (late : ℕ → Bool) × IsWholeBut nodes.old.lodged root late nobody_out }
-    requires first { (p : LeafPart V) × (leaves_in nodes.old.lodged (number_of first) ≡ Some p) × (p.block ≡ first.block)
+    requires first { (p : LeafPart V) × (leaves_in nodes.old.lodged (number_of first) ≡ Some p)
+        × (p.block ≡ first.block)
         × (p.leaf.previous ≡ None) }
     requires turn { visits.old.turn ≡ nodes.old.turn }
     ensures whole { (root : Named) (late : ℕ → Bool) (p : LeafPart V) → IsWholeBut nodes.old.lodged root late nobody_out

@@ -102,7 +102,8 @@ impl Index {
     /// The ranks of the routes whose networks have this address, and perhaps more. It counts as one visit.
     #[inline(always)]
     pub fn ranks(&self, address: Inet, visits: &mut Visits) -> Ranks
-        ensures ranks { (rank : ℕ) (room : Room) → rank ≤ 33 → Names self.now (pair (masked rank address) rank) room → HasRank result rank }
+        ensures ranks { (rank : ℕ) (room : Room) → rank ≤ 33 → Names self.now (pair (masked rank address) rank) room
+            → HasRank result rank }
         ensures visit { visits.new ≡ record visits.old { count = visits.old.count + 1 } }
     {
         self.ranges.ranks(address, visits)

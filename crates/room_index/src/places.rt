@@ -105,7 +105,8 @@ impl Places {
     fn tagged(&self, place: usize, tag: u16, visits: &mut Visits) -> Option<Entry>
         requires tags { place < length self.now.tags.items }
         requires entries { length self.now.entries.items ≡ length self.now.tags.items }
-        ensures entry { result ≡ (if slice_index self.now.tags.items place == tag then slice_get self.now.entries.items place else None) }
+        ensures entry { result
+            ≡ (if slice_index self.now.tags.items place == tag then slice_get self.now.entries.items place else None) }
         ensures look { visits.new ≡ record visits.old { count = visits.old.count + 1 } }
     {
         visits.tick(); // the look under a tag
@@ -136,7 +137,8 @@ impl Places {
     #[inline(always)]
     pub(crate) fn free_in(&self, bucket: usize, visits: &mut Visits) -> Option<usize>
         requires { 8 * bucket + 8 ≤ length self.now.tags.items }
-        ensures free { IfSome result (λ n. (n / 8 ≡ bucket) × (n < length self.now.tags.items) × (stands self.now n ≡ None)) }
+        ensures free { IfSome result (λ n. (n / 8 ≡ bucket) × (n < length self.now.tags.items)
+            × (stands self.now n ≡ None)) }
         ensures full { IfNone result ((n : ℕ) → n / 8 ≡ bucket → slice_index self.now.tags.items n ≡ 0 → ⊥) }
         ensures looks { visits.new ≡ record visits.old { count = visits.old.count + PLACES } }
     {
@@ -221,7 +223,8 @@ impl Places {
         requires from { from < length self.old.tags.items }
         requires to { (to < length self.old.tags.items) × (stands self.old to ≡ None) }
         requires size { length self.old.entries.items ≡ length self.old.tags.items }
-        requires entry { (e : Filed) × (stands self.old from ≡ Some e) × (slice_index self.old.tags.items from ≡ tag_of e.pair) }
+        requires entry { (e : Filed) × (stands self.old from ≡ Some e)
+            × (slice_index self.old.tags.items from ≡ tag_of e.pair) }
         requires used { IsCounted self.old }
         ensures moved { Moves self.old self.new from to }
         ensures used { IsCounted self.new }

@@ -256,7 +256,8 @@ impl Ranges {
     /// Tells a rank in the ranges from one to another.
     #[inline(never)]
     fn tell_in(&mut self, from: usize, to: usize, rank: Rank, visits: &mut Visits)
-        ensures told { (n : ℕ) → from ≤ n → n < to → n < length self.new.ranks.items → HasRank (slice_index self.new.ranks.items n) rank }
+        ensures told { (n : ℕ) → from ≤ n → n < to → n < length self.new.ranks.items
+            → HasRank (slice_index self.new.ranks.items n) rank }
         ensures more { TellsMore self.old self.new }
         ensures last { HasSameLast self.old self.new }
         ensures counter { visits.new.turn ≡ visits.old.turn }
@@ -321,8 +322,10 @@ impl Ranges {
         ensures short { self.new.short ≡ self.old.short }
         ensures bits { self.new.bits ≡ self.old.bits }
         ensures finer { self.new.finer ≡ self.old.finer }
-        ensures room { OnOk result (self.new.bits < MOST_BITS → more_ranges self.new.last ≤ vec_capacity self.new.last) }
-        ensures ranks_room { OnOk result (self.new.bits < MOST_BITS → more_ranges self.new.ranks ≤ vec_capacity self.new.ranks) }
+        ensures room { OnOk result (self.new.bits < MOST_BITS
+            → more_ranges self.new.last ≤ vec_capacity self.new.last) }
+        ensures ranks_room { OnOk result
+            (self.new.bits < MOST_BITS → more_ranges self.new.ranks ≤ vec_capacity self.new.ranks) }
         ensures counted { Rises (is_err result) memory.old memory.new }
     {
         if self.bits < MOST_BITS {

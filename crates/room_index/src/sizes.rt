@@ -26,7 +26,8 @@ impl Places {
     /// Whether they are few: not one for two buckets. Then hardly ever do two that become one have more than its
     /// places.
     pub(crate) fn is_sparse(&self) -> bool
-        ensures { result ≡ (nat_lt FEWEST_BITS self.now.bits && nat_lt self.now.used (length self.now.tags.items / BOTH)) }
+        ensures { result
+            ≡ (nat_lt FEWEST_BITS self.now.bits && nat_lt self.now.used (length self.now.tags.items / BOTH)) }
     {
         self.bits > FEWEST_BITS && self.used() < self.many() / BOTH
     }
@@ -38,7 +39,8 @@ impl Places {
         requires { IsTable self.old }
         ensures table { IsTable self.new }
         ensures same { HaveSame self.old self.new }
-        ensures larger { nat_le (length self.old.tags.items / PLACES) (self.old.used / DENSE) ≡ true → IsReserved self.old
+        ensures larger { nat_le (length self.old.tags.items / PLACES) (self.old.used / DENSE) ≡ true
+            → IsReserved self.old
             → self.old.bits < MOST_BITS → length self.new.tags.items ≡ length self.old.tags.items + more_places self.old }
         ensures counter { visits.new.turn ≡ visits.old.turn }
     {

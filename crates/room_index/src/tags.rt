@@ -24,7 +24,8 @@ pub(crate) fn places_before(
 ) -> usize
     requires first { first + PLACES ≤ length tags.now }
     requires second { second + PLACES ≤ length tags.now }
-    ensures before { result ≡ prefix_len (λ t. not (t == tag)) (chunk first PLACES tags.now ++ chunk second PLACES tags.now) }
+    ensures before { result
+        ≡ prefix_len (λ t. not (t == tag)) (chunk first PLACES tags.now ++ chunk second PLACES tags.now) }
     ensures visits { visits.new ≡ record visits.old { count = visits.old.count + BOTH } }
 {
     count(BOTH, visits);

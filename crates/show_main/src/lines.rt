@@ -81,7 +81,8 @@ fn show_ended<W: Write>(
 ) -> Result<(), Fault>
     requires modest { length front.now ≤ MOST_ASKED }
     requires no_failure { writer.old.failures ≡ 0 }
-    ensures shown { OnOk result (Wrote W.contents writer.old writer.new (shown (line.old.items ++ front.now) (10 ∷ []))) }
+    ensures shown { OnOk result (Wrote W.contents writer.old writer.new
+        (shown (line.old.items ++ front.now) (10 ∷ []))) }
     ensures emptied { OnOk result (line.new.items ≡ []) }
     ensures fault { IfErr result (λ fault. ShowedFront fault W.contents writer.old writer.new
         (shown (line.old.items ++ front.now) (10 ∷ []))) }
@@ -125,7 +126,8 @@ pub(crate) fn show_line<W: Write>(
 ) -> Result<(), Fault>
     requires no_failure { writer.old.failures ≡ 0 }
     ensures shown { OnOk result (Wrote W.contents writer.old writer.new (shown line.now end.now)) }
-    ensures fault { IfErr result (λ fault. ShowedFront fault W.contents writer.old writer.new (shown line.now end.now)) }
+    ensures fault { IfErr result (λ fault. ShowedFront fault W.contents writer.old writer.new
+        (shown line.now end.now)) }
     ensures unwritten { result ≡ Err Fault.NoMemory → writer.new ≡ writer.old }
     ensures kept { OnOk result (memory.new ≡ memory.old) }
     ensures refused { IfErr result (λ fault. Rises (is_want_of_memory fault) memory.old memory.new) }

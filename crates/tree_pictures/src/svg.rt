@@ -78,7 +78,8 @@ fn put_part(
     requires row { first.row + left ≤ 32 }
     requires some { 0 < length pairs.now }
     requires columns { first.column + 2 * length pairs.now < 2 ^ 64 }
-    ensures put { OnOk result (text.new ≡ text.old ++ picture label.now first.column first.row low (tree_from left pairs.now)) }
+    ensures put { OnOk result (text.new
+        ≡ text.old ++ picture label.now first.column first.row low (tree_from left pairs.now)) }
     ensures counted { Rises (is_err result) memory.old memory.new }
 {
     if left == 0 {

@@ -92,7 +92,8 @@ fn put_in_order(
     world: &World,
     memory: &mut Memory,
 ) -> Result<(), AllocError>
-    ensures put { OnOk result (text.new ≡ text.old ++ flat_map (agreeing_line world.now) (in_order address routes.now)) }
+    ensures put { OnOk result (text.new
+        ≡ text.old ++ flat_map (agreeing_line world.now) (in_order address routes.now)) }
     ensures counted { Rises (is_err result) memory.old memory.new }
 {
     put_of_ranks(text, 34, address, routes, world, memory)
@@ -108,7 +109,8 @@ fn put_of_ranks(
     memory: &mut Memory,
 ) -> Result<(), AllocError>
     requires { many ≤ 34 }
-    ensures put { OnOk result (text.new ≡ text.old ++ flat_map (agreeing_line world.now) (of_ranks address routes.now many)) }
+    ensures put { OnOk result (text.new
+        ≡ text.old ++ flat_map (agreeing_line world.now) (of_ranks address routes.now many)) }
     ensures counted { Rises (is_err result) memory.old memory.new }
 {
     'ranks: for i in 0..many {
@@ -126,7 +128,8 @@ fn put_of_rank(
     world: &World,
     memory: &mut Memory,
 ) -> Result<(), AllocError>
-    ensures put { OnOk result (text.new ≡ text.old ++ flat_map (agreeing_line world.now) (of_rank address routes.now rank)) }
+    ensures put { OnOk result (text.new
+        ≡ text.old ++ flat_map (agreeing_line world.now) (of_rank address routes.now rank)) }
     ensures counted { Rises (is_err result) memory.old memory.new }
 {
     'routes: for route in routes {
