@@ -139,10 +139,6 @@ module _ {V : Type 0} {m : Lodged V} {root : Node} (w : IsWhole m root) {h : Hel
         (own.0, kept y.entry.rank named.0 route.rank (subst (λ k. Names h (pair k y.entry.rank) named.0) (sym (own_key address y route covers)) named.1) own.1)
 
 -- -------- an index follows the routes of a table's rooms
--- an index that stays has what it had
-pub keeps_itself : (h : Held) → Keeps h h
-keeps_itself h = record { fewer = λ k r names. names; kept = λ whole. (whole, λ k r names. names) }
-
 -- what an index found is a room that it has
 pub found_named : (h : Held) (k : ℕ) (o : Option Id) → is_some o ≡ true → MatchOption o ((room : Id) → Names h k room → ⊥) (λ room. Names h k room)
     → (room : Id) × Names h k room

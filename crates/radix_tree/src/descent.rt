@@ -40,8 +40,8 @@ pub(crate) fn leaf_for<V>(nodes: &Nodes<V>, from: Node, address: Inet, visits: &
     }
 }
 
-/// The first room of a leaf that is near an address, where the index has one. Asked for before all else that an
-/// addition looks at, it comes from memory meanwhile.
+/// The first room of a leaf that is near an address, where the index has one. Asked for before all else that
+/// `Table::put` looks at, it comes from memory meanwhile.
 pub(crate) fn near_leaf<V>(
     nodes: &Nodes<V>,
     index: &Index,

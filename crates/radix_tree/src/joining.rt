@@ -105,6 +105,8 @@ pub(crate) fn remove_lone<V>(
         unreachable!();
     };
     let to = sibling_of(node, leaf.key);
+    // The masks are handed on while the bit node still stands, by whose bit they are shorter than those of `to`. Till
+    // `join` the tree is as it was, but these masks are listed with those of `to` already, or no more.
     hand_masks_on(nodes, to, node.masks, visits);
     join(nodes, up, node.above, leaf.key, to, visits);
     (root_after(node.above, to, root), up)

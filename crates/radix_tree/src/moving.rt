@@ -81,8 +81,11 @@ pub(crate) fn vacate<V>(
     let Some(node) = nodes.links(from, visits).bit_node() else {
         return root;
     };
+    // What is beneath is lifted while the bit node still stands in its room, and names `to` before a bit node is there.
     lift(nodes, node.zero, Some(to), visits);
     lift(nodes, node.one, Some(to), visits);
+    // The one room is emptied before the other is filled: between the two the bit node is in neither, and at no time in
+    // both, where its list would have two heads.
     put_bit_node(nodes, from, None, visits);
     put_bit_node(nodes, to, Some(node), visits);
     rename_child(nodes, node.above, from, to, visits);

@@ -11,8 +11,8 @@ use std::marker::Model;
 
 /// A routing table: a Patricia tree over rooms, one for each route. A contract sees the routes in table order, which
 /// is by rising keys, and for one key without a mask first and then from the longest mask to the shortest. Beside them
-/// it sees the numbers of the rooms in use, the number of the next room, and the turn: `begin`, `add`, `remove` and
-/// `get_mut` begin one, and a counter of an earlier turn can't be used again.
+/// it sees the numbers of the rooms in use, the number of the next room, and the turn: `begin`, `add`, `add_absent`,
+/// `remove` and `get_mut` begin one, and a counter of an earlier turn can't be used again.
 #[derive(Drop)]
 pub struct Table<V> {
     pub(crate) nodes: Nodes<V>,

@@ -85,25 +85,72 @@ impl<V: Drop> Table<V> {
         ensures next { self.new.next ≡ self.old.next }
         ensures turn { self.new.turn ≡ self.old.turn + 1 }
     {
+        let mut visits = self.begin();
+        if self.index.find(key, rank, &mut visits).is_some() {
+            return Err((room, value));
+        }
+        self.put(room, key, rank, value, &mut visits)
+    }
+
+    /// Puts a route into this table as `add` does, where the table has none with its key and rank: it doesn't look.
+    pub fn add_absent(&mut self, room: Room<V>, key: Inet, rank: Rank, value: V)
+        requires made { room < self.old.next }
+        requires free { uses room self.old.numbers ≡ 0 }
+        requires masked { masked rank key ≡ key }
+        requires absent { entry_at key rank self.old.entries ≡ None }
+        ensures entries { self.new.entries ≡ with_entry (record { key = key; rank = rank; value = value }) self.old.entries }
+        ensures numbers { (n : ℕ) → uses n self.new.numbers ≡ uses n self.old.numbers + (if room == n then 1 else 0) }
+        ensures next { self.new.next ≡ self.old.next }
+        ensures turn { self.new.turn ≡ self.old.turn + 1 }
+    {
+        let mut visits = self.begin();
+        match self.put(room, key, rank, value, &mut visits) {
+            Ok(()) => {}
+            // only a route with its key and rank would send it back
+            Err(_) => unreachable!(),
+        }
+    }
+
+    /// Puts a route into this table as `add` does, in the turn that has begun. It doesn't ask the index, and goes the
+    /// tree's way at once.
+    fn put(
+        &mut self,
+        room: Room<V>,
+        key: Inet,
+        rank: Rank,
+        value: V,
+        visits: &mut Visits,
+    ) -> Result<(), (Room<V>, V)>
+        requires made { room < self.old.next }
+        requires free { uses room self.old.numbers ≡ 0 }
+        requires masked { masked rank key ≡ key }
+        requires turn { visits.old.turn ≡ self.old.turn }
+        ensures there { IsErr result ↔ IsSome (entry_at key rank self.old.entries) }
+        ensures absent { OnOk result (entry_at key rank self.old.entries ≡ None) }
+        ensures ok { OnOk result
+            (self.new.entries ≡ with_entry (record { key = key; rank = rank; value = value }) self.old.entries) }
+        ensures numbers { OnOk result
+            ((n : ℕ) → uses n self.new.numbers ≡ uses n self.old.numbers + (if room == n then 1 else 0)) }
+        ensures err { OnErr result (self.new ≡ self.old) }
+        ensures back { IfErr result (λ b. (b.0 ≡ room) × (b.1 ≡ value)) }
+        ensures next { self.new.next ≡ self.old.next }
+        ensures turn { self.new.turn ≡ self.old.turn }
+    {
         let Room { space, number } = room;
         let space = self.nodes.spare(space);
         let at = Snapshot::of(&space);
-        let mut visits = self.nodes.begin();
         let near = match self.root {
-            Some(root) => near_leaf(&self.nodes, &self.index, root, key, &mut visits),
+            Some(root) => near_leaf(&self.nodes, &self.index, root, key, visits),
             None => None,
         };
-        if self.index.find(key, rank, &mut visits).is_some() {
-            return Err((Room { space, number }, value));
-        }
         let entry = Entry::of(key, rank, value);
-        let vacancy = self.index.vacancy(key, rank, &mut visits);
-        match insert(&mut self.nodes, near, self.root, space, entry, &mut visits) {
+        let vacancy = self.index.vacancy(key, rank, visits);
+        match insert(&mut self.nodes, near, self.root, space, entry, visits) {
             Err((space, value)) => Err((Room { space, number }, value)),
             Ok((root, id)) => {
                 self.root = Some(root);
                 self.counts.added(rank);
-                self.index.enter(vacancy, key, rank, id, &mut visits);
+                self.index.enter(vacancy, key, rank, id, visits);
                 self.given.put(at, number);
                 Ok(())
             }

@@ -12,7 +12,7 @@ ghost use Rattle.sock_addrs.specs.Errno.{is_no_memory};
 use crate::leading::ifa_of_route;
 use crate::looking::settle_gateway;
 use crate::notice::Notices;
-use crate::placing::place;
+use crate::placing::place_absent;
 use crate::reading::is_there;
 use crate::spare::Spare;
 use if_addrs::{IfaRef, Interfaces};
@@ -172,10 +172,8 @@ pub fn add_planned(
     ensures fits { FitsSpare table.new spare.new }
     ensures used { length spare.old ≤ length spare.new + 2 }
 {
-    match place(table, spare, route) {
-        Ok(()) => settle_gateway(table, spare, &route.value),
-        Err(_) => unreachable!(),
-    }
+    place_absent(table, spare, route);
+    settle_gateway(table, spare, &route.value)
 }
 
 /// What refuses to add a route, in this order: ENETUNREACH: no interface address is found for it; EEXIST: a route

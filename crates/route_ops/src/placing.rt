@@ -1,5 +1,5 @@
 //! Routes that are put into the table, in a spare room or in the place of what they were, or taken out of it.
-ghost use Rattle.std.specs.Prelude.{◌≡◌, ◌+◌, ◌≤◌, length, true, Ok, Err, IfSome, IfNone, IsSome, OnOk, OnErr, MatchResult};
+ghost use Rattle.std.specs.Prelude.{◌≡◌, ◌+◌, ◌≤◌, length, true, Ok, Err, None, IfSome, IfNone, IsSome, OnOk, OnErr, MatchResult};
 ghost use Rattle.mask_table.specs.Agreeing.{masked};
 ghost use Rattle.radix_tree.specs.Table.{entry_at, with_entry, without};
 ghost use Rattle.radix_tree.specs.TableLaws.{StandsIn};
@@ -51,6 +51,25 @@ pub(crate) fn place(
             Err(Errno::EEXIST)
         }
     }
+}
+
+/// Puts a route whose key and rank no route has into the table, in a spare room.
+pub(crate) fn place_absent(table: &mut Table<PackedRoute>, spare: &mut Spare, route: &Entry<Route>)
+    requires fits { FitsSpare table.old spare.old }
+    requires rooms { 1 ≤ length spare.old }
+    requires masked { masked route.now.rank route.now.key ≡ route.now.key }
+    requires absent { entry_at route.now.key route.now.rank table.old.entries ≡ None }
+    ensures added { table.new.entries ≡ with_entry route.now table.old.entries }
+    ensures keeps { KeepsRoutes table.old.entries table.new.entries }
+    ensures of { KeepsAreOfWith route.now.value.ifa table.old.entries table.new.entries }
+    ensures next { table.new.next ≡ table.old.next }
+    ensures fits { FitsSpare table.new spare.new }
+    ensures used { length spare.old ≤ length spare.new + 1 }
+{
+    let Place { room, block } = spare.take();
+    let (packed, back) = PackedRoute::of(&route.value, block);
+    table.add_absent(room, route.key, route.rank, packed);
+    spare.keep(back);
 }
 
 /// Writes a route of the table anew, which keeps its key and its rank. It takes no memory: where the route is kept
