@@ -3,8 +3,6 @@ use Rattle.std.proofs.Common.{◌≡◌, ◌||◌, ℕ, Bool, true, false, List,
 use Rattle.std.specs.Prelude.{OnErr, OnOk}
 use Rattle.std.specs.Io.KnownBytes.{Appends, Consumes, IsAtEnd, Keeps}
 use Rattle.std.proofs.KnownBytes.{Appends-nil, Appends-trans, Consumes-kept, Consumes-nil, Consumes-trans}
-use Rattle.event_file.specs.Counts.{Counts}
-use Rattle.event_file.specs.Output.{Wrote, WroteFront}
 use Rattle.program_ends.specs.declared.outcome.Outcome.{Outcome}
 use Rattle.program_ends.specs.declared.outcome.Outcome.TheVariants.{Done, BadLine, ReadFault, WriteFault, NoMemory}
 use Rattle.conv_main.specs.Converted.{converted, converted_text, converted_whole, first_place, place_after, told, told_text, told_whole}
@@ -16,17 +14,6 @@ use Rattle.conv_main.specs.declared.way.Way.{Way}
 use Rattle.conv_main.proofs.Taken.{Took-front, Took-front_lines, Took-lines, Took-out, Took-place, begun_piece-append, converted-append, either_took, has_line-append, place_after-append, told-append, whole_pieces-append}
 
 -- ---- fronts
-
-pub Front-none : (text : List ℕ) (o : Option (List ℕ)) → WroteFrontOf text o o
-Front-none text o = record { written = []; unwritten = text; appends = Appends-nil o; whole = refl }
-
-pub Front-all : {T : Type 0} {contents : T → Option (List ℕ)} {a b : Counts T} {text : List ℕ} (rest whole : List ℕ) → Wrote contents a b text → whole ≡ text ++ rest
-    → WroteFrontOf whole (contents a.inner) (contents b.inner)
-Front-all {text = text} rest whole p is = record { written = text; unwritten = rest; appends = p.appends; whole = is }
-
-pub Front-part : {T : Type 0} {contents : T → Option (List ℕ)} {a b : Counts T} {text : List ℕ} → WroteFront contents a b text
-    → WroteFrontOf text (contents a.inner) (contents b.inner)
-Front-part p = record { written = p.written; unwritten = p.unwritten; appends = p.appends; whole = p.whole }
 
 -- a front of a front
 pub Front-longer : {text : List ℕ} {o n : Option (List ℕ)} (rest whole : List ℕ) → WroteFrontOf text o n → whole ≡ text ++ rest → WroteFrontOf whole o n
@@ -120,9 +107,6 @@ module _ {w : Way} {refused : Bool} {before mid c d e f : Option (List ℕ)} {pi
     appends = r.appends;
     tells = r.tells;
   }
-
-  pub Ends-spent : Reached w refused before mid c d e f piece place → Ends ReadFault w before mid c d e f
-  Ends-spent r = record { read = r.read; consumes = r.consumes; appends = r.appends; tells = r.tells }
 
   -- of what would be made of these bytes a front was written
   pub Front-of : (after g h : Option (List ℕ)) (bytes : List ℕ) → Reached w refused before mid c d e f piece place → Consumes mid after bytes
