@@ -1,32 +1,20 @@
 -- The steps of a run, and how it ends.
-use Rattle.std.proofs.Common.{◌≡◌, ◌||◌, ℕ, Bool, true, false, List, [], ◌++◌, Option, Result, refl, sym, ap, ◌∙◌, subst, append_assoc, append-nil, inl, inr}
+use Rattle.std.proofs.Common.{◌≡◌, ◌≤◌, ◌||◌, ℕ, Bool, true, false, List, [], ◌++◌, Option, Result, refl, sym, ap, ◌∙◌, subst, append_assoc, append-nil, length, inl, inr, arith}
 use Rattle.std.specs.Prelude.{OnErr, OnOk}
 use Rattle.std.specs.Io.KnownBytes.{Appends, Consumes, IsAtEnd, Keeps}
 use Rattle.std.proofs.KnownBytes.{Appends-nil, Appends-trans, Consumes-kept, Consumes-nil, Consumes-trans}
-use Rattle.event_file.specs.Counts.{Counts}
-use Rattle.event_file.specs.Output.{Wrote, WroteFront}
 use Rattle.program_ends.specs.declared.outcome.Outcome.{Outcome}
 use Rattle.program_ends.specs.declared.outcome.Outcome.TheVariants.{Done, BadLine, ReadFault, WriteFault, NoMemory}
 use Rattle.conv_main.specs.Converted.{converted, converted_text, converted_whole, first_place, place_after, told, told_text, told_whole}
 use Rattle.conv_main.specs.Ends.{ConvertedAll, ConvertedFirst, ConvertedFront, Ends, Fronts, WroteFrontOf, has_line}
 use Rattle.conv_main.specs.Pieces.{begun_piece, last_piece, whole_pieces}
 use Rattle.conv_main.specs.Progress.{Finished, Finishes, Reached, Took}
+use Rattle.conv_main.specs.declared.run.TheConstants.{READ_ROOM}
 use Rattle.conv_main.specs.declared.way.Place.{Place}
 use Rattle.conv_main.specs.declared.way.Way.{Way}
 use Rattle.conv_main.proofs.Taken.{Took-front, Took-front_lines, Took-lines, Took-out, Took-place, begun_piece-append, converted-append, either_took, has_line-append, place_after-append, told-append, whole_pieces-append}
 
 -- ---- fronts
-
-pub Front-none : (text : List ℕ) (o : Option (List ℕ)) → WroteFrontOf text o o
-Front-none text o = record { written = []; unwritten = text; appends = Appends-nil o; whole = refl }
-
-pub Front-all : {T : Type 0} {contents : T → Option (List ℕ)} {a b : Counts T} {text : List ℕ} (rest whole : List ℕ) → Wrote contents a b text → whole ≡ text ++ rest
-    → WroteFrontOf whole (contents a.inner) (contents b.inner)
-Front-all {text = text} rest whole p is = record { written = text; unwritten = rest; appends = p.appends; whole = is }
-
-pub Front-part : {T : Type 0} {contents : T → Option (List ℕ)} {a b : Counts T} {text : List ℕ} → WroteFront contents a b text
-    → WroteFrontOf text (contents a.inner) (contents b.inner)
-Front-part p = record { written = p.written; unwritten = p.unwritten; appends = p.appends; whole = p.whole }
 
 -- a front of a front
 pub Front-longer : {text : List ℕ} {o n : Option (List ℕ)} (rest whole : List ℕ) → WroteFrontOf text o n → whole ≡ text ++ rest → WroteFrontOf whole o n
@@ -47,6 +35,7 @@ First-none w before old old_told = record {
   rest = [];
   consumes = Consumes-nil before;
   pieces = refl;
+  has_earlier = record { earlier = []; last = []; some = []; parts = refl; one_read = omega arith; done_are = refl };
   appends = Appends-nil old;
   tells = Appends-nil old_told;
 }
@@ -121,9 +110,6 @@ module _ {w : Way} {refused : Bool} {before mid c d e f : Option (List ℕ)} {pi
     tells = r.tells;
   }
 
-  pub Ends-spent : Reached w refused before mid c d e f piece place → Ends ReadFault w before mid c d e f
-  Ends-spent r = record { read = r.read; consumes = r.consumes; appends = r.appends; tells = r.tells }
-
   -- of what would be made of these bytes a front was written
   pub Front-of : (after g h : Option (List ℕ)) (bytes : List ℕ) → Reached w refused before mid c d e f piece place → Consumes mid after bytes
       → Fronts (converted w (whole_pieces w piece bytes)) (told w place (whole_pieces w piece bytes)) d g f h → ConvertedFront w before after c g e h
@@ -163,8 +149,8 @@ module _ {w : Way} {refused : Bool} {before mid c d e f : Option (List ℕ)} {pi
   pub Ends-short : (q : Place) (left : List (List ℕ)) (old_out out old_lines lines : List ℕ) (after g h : Option (List ℕ)) (bytes : List ℕ)
       → Reached w refused before mid c d e f piece place → Consumes mid after bytes → old_out ≡ [] → old_lines ≡ []
       → Took w place q (whole_pieces w piece bytes) left old_out out old_lines lines → Appends d g out → Appends f h lines
-      → ConvertedFirst w before after c g e h
-  Ends-short q left old_out out old_lines lines after g h bytes r consumes no_out no_lines t appends tells =
+      → length bytes ≤ READ_ROOM → ConvertedFirst w before after c g e h
+  Ends-short q left old_out out old_lines lines after g h bytes r consumes no_out no_lines t appends tells few =
       let out_is : out ≡ converted w t.done = t.out ∙ ap (λ l. l ++ converted w t.done) no_out in
       let lines_are : lines ≡ told w place t.done = t.lines ∙ ap (λ l. l ++ told w place t.done) no_lines in
       let whole = whole_pieces w [] r.read in
@@ -175,6 +161,7 @@ module _ {w : Way} {refused : Bool} {before mid c d e f : Option (List ℕ)} {pi
         consumes = Consumes-trans before mid after r.read bytes r.consumes consumes;
         pieces = whole_pieces-append w [] r.read bytes ∙ ap (λ l. whole ++ whole_pieces w l bytes) (sym r.piece_is)
             ∙ ap (λ l. whole ++ l) t.whole ∙ sym (append_assoc whole t.done left);
+        has_earlier = record { earlier = r.read; last = bytes; some = t.done; parts = refl; one_read = few; done_are = refl };
         appends = subst (Appends c g) (sym (converted-append w whole t.done))
             (Appends-trans c d g (converted_whole w r.read) (converted w t.done) r.appends (subst (Appends d g) out_is appends));
         tells = subst (Appends e h) (sym (told-append w first_place whole t.done ∙ ap (λ p. told_whole w r.read ++ told w p t.done) (sym r.place_is)))
@@ -226,6 +213,14 @@ module _ {w : Way} {refused : Bool} {before mid c d e f : Option (List ℕ)} {pi
     rest = [];
     consumes = subst (Consumes before after) (append-nil r.read) (Consumes-trans before mid after r.read [] r.consumes consumes);
     pieces = sym (append-nil (whole_pieces w [] r.read));
+    has_earlier = record {
+      earlier = r.read;
+      last = [];
+      some = [];
+      parts = sym (append-nil r.read);
+      one_read = omega arith;
+      done_are = sym (append-nil (whole_pieces w [] r.read));
+    };
     appends = subst (λ n. Appends c n (converted_whole w r.read)) (sym same) r.appends;
     tells = subst (λ n. Appends e n (told_whole w r.read)) (sym same_lines) r.tells;
   }

@@ -50,9 +50,6 @@ has_line-append (x ∷ xs) ys = refl
 
 -- ---- what was taken of some pieces
 
-pub Took-none : (w : Way) (p : Place) (pieces : List (List ℕ)) (out lines : List ℕ) → Took w p p pieces pieces out out lines lines
-Took-none w p pieces out lines = record { done = []; whole = refl; place = refl; out = sym (append-nil out); lines = sym (append-nil lines) }
-
 -- one piece more
 pub Took-piece : {w : Way} {p q r : Place} {pieces rest : List (List ℕ)} {a b c d b2 d2 : List ℕ} (x : List ℕ) → Took w p q pieces (x ∷ rest) a b c d
     → r ≡ place_behind w q x → b2 ≡ b ++ converted_piece w x → d2 ≡ d ++ told_piece w q x → Took w p r pieces rest a b2 c d2

@@ -1,12 +1,13 @@
 -- What a run with an outcome did to its reader, which had `before` and has `after` left, to its writer, which held
 -- `old` and holds `new`, and to the writer that it tells of refused messages, which held `old_told` and holds
 -- `new_told`.
-use Rattle.std.specs.Prelude.{◌≡◌, ◌<◌, ◌≤◌, Bool, true, false, List, [], ◌∷◌, ◌++◌, ℕ, Option, ◌⊎◌}
+use Rattle.std.specs.Prelude.{◌≡◌, ◌<◌, ◌≤◌, Bool, true, false, List, [], ◌∷◌, ◌++◌, ℕ, Option, ◌⊎◌, length}
 use Rattle.std.specs.Io.KnownBytes.{Appends, Consumes, IsAtEnd}
 use Rattle.program_ends.specs.declared.outcome.Outcome.{Outcome}
 use Rattle.program_ends.specs.declared.outcome.Outcome.TheVariants.{Done, BadLine, ReadFault, WriteFault, NoMemory}
 use Rattle.conv_main.specs.Converted.{converted, converted_text, converted_whole, first_place, told, told_text, told_whole}
 use Rattle.conv_main.specs.Pieces.{whole_pieces}
+use Rattle.conv_main.specs.declared.run.TheConstants.{READ_ROOM}
 use Rattle.conv_main.specs.declared.way.Way.{Way}
 
 -- something was told
@@ -51,14 +52,24 @@ pub record ConvertedFront (w : Way) (before after old new old_told new_told : Op
   pub front : Fronts (converted_whole w read) (told_whole w read) old new old_told new_told
       ⊎ (IsAtEnd after × Fronts (converted_text w read) (told_text w read) old new old_told new_told)
 
+-- these are the first pieces of what was read, with all that ended before the last read
+pub record HasEarlier (w : Way) (read : List ℕ) (done : List (List ℕ)) : Type 0 where
+  pub earlier : List ℕ
+  pub last : List ℕ
+  pub some : List (List ℕ)
+  pub parts : read ≡ earlier ++ last
+  pub one_read : length last ≤ READ_ROOM
+  pub done_are : done ≡ whole_pieces w [] earlier ++ some
+
 -- it wrote the first of the pieces that were read to their ends, each converted, and told of those of them that have no
--- counterpart, and nothing of the others
+-- counterpart, and nothing of the others, which ended in the last read
 pub record ConvertedFirst (w : Way) (before after old new old_told new_told : Option (List ℕ)) : Type 0 where
   pub read : List ℕ
   pub done : List (List ℕ)
   pub rest : List (List ℕ)
   pub consumes : Consumes before after read
   pub pieces : whole_pieces w [] read ≡ done ++ rest
+  pub has_earlier : HasEarlier w read done
   pub appends : Appends old new (converted w done)
   pub tells : Appends old_told new_told (told w first_place done)
 

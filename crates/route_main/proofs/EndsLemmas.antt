@@ -6,8 +6,8 @@ use Rattle.std.proofs.KnownBytes.{Consumes-whole}
 use Rattle.program_ends.specs.declared.outcome.Outcome.{Outcome}
 use Rattle.program_ends.specs.declared.outcome.Outcome.TheVariants.{Done, BadLine, ReadFault, WriteFault, NoMemory}
 use Rattle.event_file.specs.Causes.{ComputedHasMemory, CountedIsTranscript, EachRefusalIsCounted, IsComputed, IsTranscriptCounted, TextHasMemory, UnrefusedIsComputed, refusals}
-use Rattle.event_file.specs.Lines.{answered_lines, ended_lines}
-use Rattle.event_file.specs.Transcript.{IsTranscript, has_bad_line, transcript_of}
+use Rattle.event_file.specs.Lines.{ended_lines}
+use Rattle.event_file.specs.Transcript.{IsTranscript, transcript_of}
 use Rattle.route_main.specs.Ends.{AnsweredAll, WroteFrontOf, Ends, EndsBy, EndsComputed, EndsCounted, IsAnswered}
 
 -- ---- what a whole run says
@@ -19,17 +19,6 @@ transcript_of_all BadLine before after old new p is = Consumes-whole before afte
 transcript_of_all ReadFault before after old new p is = absurd is
 transcript_of_all WriteFault before after old new p is = absurd is
 transcript_of_all NoMemory before after old new p is = absurd is
-
-bad_of_all : (before after old new : Option (List ℕ)) (bad : Bool) → AnsweredAll IsTranscript before after old new bad → IfSome before (λ script. has_bad_line (answered_lines script) ≡ bad)
-bad_of_all before after old new bad p = Consumes-whole before after p.read (λ script. has_bad_line (answered_lines script) ≡ bad) p.consumes p.all p.bad
-
-pub done_of_all : (outcome : Outcome) (before after old new : Option (List ℕ)) → Ends outcome before after old new → outcome ≡ Done
-    → IfSome before (λ script. has_bad_line (answered_lines script) ≡ false)
-done_of_all outcome before after old new p is = bad_of_all before after old new false (subst (λ (o : Outcome). Ends o before after old new) is p)
-
-pub bad_line_of_all : (outcome : Outcome) (before after old new : Option (List ℕ)) → Ends outcome before after old new → outcome ≡ BadLine
-    → IfSome before (λ script. has_bad_line (answered_lines script) ≡ true)
-bad_line_of_all outcome before after old new p is = bad_of_all before after old new true (subst (λ (o : Outcome). Ends o before after old new) is p)
 
 -- ---- what memory that was refused leaves
 

@@ -1,10 +1,9 @@
 -- How the steps of a run are put together.
-use Rattle.std.proofs.Common.{◌≡◌, ℕ, Bool, true, false, not, ◌||◌, cond, List, [], ◌∷◌, ◌++◌, Option, Some, None, Result, Ok, Err, refl, sym, ap, ◌∙◌, subst, append_assoc, append-nil, inl, inr, suc, ◌+◌, ◌≤◌, ◌≢◌, length, length-append, length-take-le, take, drop, take-append-drop, arith, OnErr, OnOk}
+use Rattle.std.proofs.Common.{◌≡◌, ℕ, Bool, true, false, ◌||◌, cond, List, [], ◌∷◌, ◌++◌, Option, Some, None, Result, Ok, Err, refl, sym, ap, ◌∙◌, subst, append_assoc, append-nil, inl, inr, suc, ◌+◌, ◌≤◌, ◌≢◌, length, length-append, length-take-le, take, drop, take-append-drop, arith, OnErr, OnOk}
 use Rattle.std.specs.Prelude.{is_none, is_err, IfSome}
 use Rattle.std.specs.Io.KnownBytes.{Appends, Consumes, IsAtEnd, Keeps}
 use Rattle.std.proofs.KnownBytes.{Appends-nil, Appends-trans, Consumes-kept, Consumes-nil, Consumes-trans}
 use Rattle.std.proofs.Math.Bool.{or_assoc}
-use Rattle.std.proofs.lemmas.Bool.{cond-true}
 use Rattle.std.proofs.lemmas.List.{take_all}
 use Rattle.program_ends.specs.declared.outcome.Outcome.{Outcome}
 use Rattle.program_ends.specs.declared.outcome.Outcome.TheVariants.{Done, BadLine, ReadFault, WriteFault}
@@ -12,7 +11,7 @@ use Rattle.event_file.specs.declared.bad.Bad.{Bad}
 use Rattle.route_core.specs.declared.answer.Answer.{Answer}
 use Rattle.event_file.specs.Answers.{response_text}
 use Rattle.event_file.specs.Counts.{Counts}
-use Rattle.event_file.specs.Lines.{Line, after_bytes, answered_lines, begun_line, ended_lines, extended, first_line, has_newline, is_answered, is_begun, is_passed, kept, no_line}
+use Rattle.event_file.specs.Lines.{Line, after_bytes, answered_lines, begun_line, ended_lines, extended, first_line, has_newline, kept, no_line}
 use Rattle.event_file.specs.Output.{Wrote, WroteFront}
 use Rattle.route_main.specs.Progress.{Standing, Answers, StopsWithin, Progress, Advances, Breaks, Finishes, Reached, HasRead, answered_of, fresh, standing}
 use Rattle.event_file.specs.Causes.{AnsweredCounted, IsTranscriptCounted, RespondsCounted}
@@ -87,10 +86,6 @@ pub at_ok : {T E : Type 0} (r : Result T E) (P : Type 0) → is_err r ≡ false 
 at_ok (Ok x) P is p = p
 at_ok (Err e) P is p = absurd (cc)
 
--- a line that gives an answer
-answered_of-line : (line : Option (List ℕ)) → is_passed line ≡ false → answered_of line ≡ line ∷ []
-answered_of-line line is = cond-true (is_answered line) (line ∷ []) [] (ap not is)
-
 malformed : (old new : World) (line : Option (List ℕ)) (response : Result Answer Bad) (i j : ℕ) → RespondsCounted old line response new i j
     → is_err response ≡ (is_none (command_in line) || false)
 malformed old new line (Ok answer) i j (command, is, step) = rw is refl
@@ -127,9 +122,6 @@ kept_extended {read = read} bytes p = ap (λ (l : Line). extended l.text bytes) 
 
 begun_no_newline : (read bytes : List ℕ) → has_newline bytes ≡ false → has_newline (begun_line read ++ bytes) ≡ false
 begun_no_newline read bytes none = has_newline-append (begun_line read) bytes ∙ ap (λ t. t || has_newline bytes) (begun_line-no_newline read) ∙ none
-
-pub Advances-none : (s : Standing) (c : Option (List ℕ)) (line : Line) → Advances s s c c [] line line
-Advances-none s c line = record { on = λ first start read p. subst (λ x. Progress first s start c x line) (sym (append-nil read)) p }
 
 pub Advances-then : {a b e : Standing} {c d f : Option (List ℕ)} {bs cs : List ℕ} {l m n : Line} → Advances a b c d bs l m → Advances b e d f cs m n → Advances a e c f (bs ++ cs) l n
 Advances-then {e = e} {f = f} {bs = bs} {cs = cs} {n = n} p q = record {
@@ -285,12 +277,6 @@ Finishes-write_fault {s} {n} {c} {d} q = record {
       };
 }
 
--- a line without a byte is not answered
-pub answered_of-none : (line : Option (List ℕ)) → is_begun line ≡ false → answered_of line ≡ []
-answered_of-none None none = absurd (cc)
-answered_of-none (Some []) none = refl
-answered_of-none (Some (b ∷ bs)) none = absurd (cc)
-
 -- ---- a run that reads
 
 pub Reached-start : (count : ℕ) (before old : Option (List ℕ)) → Reached count (standing fresh count) before before old old no_line
@@ -308,9 +294,6 @@ Reached-read {n = n} {before = before} {mid = mid} {after = after} {c = c} {byte
   progress = q.on (standing fresh n) c p.read p.progress;
 }
 
-pub HasRead-start : (before : Option (List ℕ)) → HasRead 0 before before
-HasRead-start before = record { read = []; consumes = Consumes-nil before; many = omega (arith) }
-
 -- a read that gives some bytes makes them one more at least
 pub HasRead-more : {n : ℕ} {before mid after : Option (List ℕ)} (taken : ℕ) (buf : List ℕ) → HasRead n before mid → Consumes mid after (take taken buf) → taken ≤ length buf → taken ≢ 0
     → HasRead (n + 1) before after
@@ -319,12 +302,6 @@ HasRead-more {n} {before} {mid} {after} taken buf p consumes bound some = record
   consumes = Consumes-trans before mid after p.read (take taken buf) p.consumes consumes;
   many = omega (arith, p.many, length-append p.read (take taken buf), length-take-le taken buf bound, some);
 }
-
--- so the script is at least so long
-pub HasRead-script : {n : ℕ} {before after : Option (List ℕ)} → HasRead n before after → IfSome before (λ script. n ≤ length script)
-HasRead-script {before = None} p = tt
-HasRead-script {before = Some script} {after = None} p = absurd p.consumes
-HasRead-script {before = Some script} {after = Some rest} p = omega (arith, p.many, ap length p.consumes, length-append p.read rest)
 
 -- each read but the last gave a byte
 pub HasRead-reads : (n r : ℕ) (before after : Option (List ℕ)) → HasRead n before after → r ≤ n + 1 → IfSome before (λ script. r ≤ length script + 1)

@@ -1,5 +1,5 @@
 //! The places for routes that a step may need.
-ghost use Rattle.std.specs.Prelude.{◌≡◌, ◌+◌, ◌<◌, ◌≤◌, ◌∷◌, length, min, is_err, IfOk, OnOk, OnErr};
+ghost use Rattle.std.specs.Prelude.{◌≡◌, ◌+◌, ◌<◌, ◌≤◌, ◌∷◌, length, min, is_err, IfOk, IsOk, OnOk, OnErr};
 ghost use Rattle.memory.specs.Refusing.{Rises};
 ghost use Rattle.radix_tree.specs.Table.{uses};
 ghost use Rattle.route_ops.specs.Spares.{FitsSpare};
@@ -103,7 +103,7 @@ pub fn prepare(
     }
 }
 
-/// Makes so many places, two at most. `Err` where there is no memory for them.
+/// Makes so many places, two at most. `Err` where there is no memory for them, so never where none is asked for.
 pub fn prepare_rooms(
     table: &mut Table<PackedRoute>,
     rooms: usize,
@@ -111,6 +111,7 @@ pub fn prepare_rooms(
     memory: &mut Memory,
 ) -> Result<Spare, AllocError>
     ensures rooms { IfOk result (λ spare. length spare ≡ min rooms 2) }
+    ensures none_asked { rooms ≡ 0 → IsOk result }
     ensures fits { IfOk result (λ spare. FitsSpare table.new spare) }
     ensures entries { table.new.entries ≡ table.old.entries }
     ensures numbers { table.new.numbers ≡ table.old.numbers }

@@ -1,8 +1,7 @@
 -- Where a line ends, and the message that it tells.
-use Rattle.std.proofs.Common.{◌≡◌, ◌∙◌, ℕ, ◌+◌, Bool, true, false, ◌&&◌, ◌==◌, List, [], ◌∷◌, length, Option, Some, None, Ok, refl, sym, ap, subst, arith}
+use Rattle.std.proofs.Common.{◌≡◌, ◌∙◌, ℕ, ◌+◌, Bool, true, false, ◌&&◌, List, [], ◌∷◌, length, Option, Some, None, Ok, refl, sym, ap, subst, arith}
 use Rattle.std.specs.Prelude.{if◌then◌else◌, option_map}
 use Rattle.std.specs.List.{between, list_all, position}
-use Rattle.std.proofs.lemmas.Bool.{eqb-true}
 use Rattle.std.proofs.lemmas.Slice.{between_to_end}
 use Rattle.memchr.specs.Find.{IsFirstByte, is_byte}
 use Rattle.hex.specs.Hex.{decode_of}
@@ -22,12 +21,6 @@ first_newline text r h =
     let whole : text ≡ between 0 (length text) text = sym (between_to_end text 0 (length text) (omega arith)) in
     sym (from_start r)
     ∙ found_far 10 0 text r (λ k below. absurd (omega (arith, below))) (omega arith) (subst (λ (t : List ℕ). IsFirstByte (is_byte 10) t r) whole h)
-
--- ---- an empty line
-
-pub no_items : (items : List ℕ) → (length items == 0) ≡ true → items ≡ []
-no_items [] none = refl
-no_items (b ∷ items) none = absurd (omega (arith, eqb-true _ _ none))
 
 -- ---- the message of a line
 

@@ -8,16 +8,15 @@ use Rattle.std.proofs.lemmas.Grind.{flat_map-append}
 use Rattle.event_file.specs.Counts.{Counts}
 use Rattle.event_file.specs.Lines.{begun_line, ended_lines, first_line, has_newline, lines_of}
 use Rattle.event_file.specs.Output.{Wrote, WroteFront}
-use Rattle.event_file.proofs.Fronts.{Wrote-nil, Wrote-then}
+use Rattle.event_file.proofs.Fronts.{Wrote-then}
 use Rattle.event_file.proofs.LineLemmas.{begun_line-end, begun_line-more, ended_lines-append, ended_lines-end, ended_lines-more, has_newline-append, lines_of-ended, lines_of-line, take-first_line}
 use Rattle.program_ends.proofs.ReadLemmas.{Appends-kept}
 use Rattle.program_ends.specs.declared.outcome.Outcome.{Outcome}
 use Rattle.program_ends.specs.declared.outcome.Outcome.TheVariants.{Done, BadLine, ReadFault, WriteFault, NoMemory}
 use Rattle.show_main.specs.declared.lines.Fault.{Fault}
 use Rattle.show_main.specs.declared.lines.Fault.TheVariants as fault
-use Rattle.memory.specs.Refusing.{Rises}
 use Rattle.show_main.specs.Ends.{Ends, EndsCounted, ShowedFirst, ShowedFrontOf, WroteFrontOf}
-use Rattle.show_main.specs.Faults.{ShowedFront, ShowedLines, failures_of, is_want_of_memory}
+use Rattle.show_main.specs.Faults.{ShowedFront, ShowedLines, failures_of}
 use Rattle.show_main.specs.Progress.{Finishes, Reached}
 use Rattle.show_main.specs.Shown.{shown_ended, shown_line, shown_lines, shown_text, whole_lines}
 
@@ -268,10 +267,6 @@ shown_of_all outcome before after old new p is =
 
 -- ---- a line that is shown
 
--- none was shown yet
-pub ShowedLines-none : {T : Type 0} {contents : T → Option (List ℕ)} (w : Counts T) (text : List ℕ) → ShowedLines contents w w text (whole_lines text)
-ShowedLines-none w text = record { done = []; lines = refl; wrote = Wrote-nil w }
-
 -- the line that ended was shown
 pub ShowedLines-line : {T : Type 0} {contents : T → Option (List ℕ)} {a b d : Counts T} {text : List ℕ} (line front bytes behind : List ℕ) → ShowedLines contents a b text (whole_lines (line ++ bytes))
     → bytes ≡ front ++ 10 ∷ behind → has_newline line ≡ false → has_newline front ≡ false → Wrote contents b d (shown_line (line ++ front) (10 ∷ []))
@@ -297,11 +292,6 @@ pub ShowedLines-stopped : {T : Type 0} {contents : T → Option (List ℕ)} {f :
 ShowedLines-stopped {contents = contents} {f = f} {a = a} {d = d} {rest = rest} p q =
     subst (ShowedFront f contents a d) (sym (ap shown_lines p.lines ∙ shown_lines-append p.done rest)) (ShowedFront-then p.wrote q)
 
--- nothing of it was
-pub ShowedLines-short : {T : Type 0} {contents : T → Option (List ℕ)} (f : Fault) {a b : Counts T} {text : List ℕ} {rest : List (List ℕ)} → ShowedLines contents a b text rest
-    → failures_of f ≡ 0 → ShowedFront f contents a b (shown_ended text)
-ShowedLines-short f {b = b} {rest = rest} p none = ShowedLines-stopped p (ShowedFront-none f b b (shown_lines rest) refl none)
-
 -- what holds of the error that `?` makes of another
 pub by_error : {X E : Type 0} (r : Result X E) {P Q : E → Type 0} → IsErrAnd r P → ((e : E) → P e → Q e) → IfErr r Q
 by_error (Ok x) p f = tt
@@ -314,17 +304,6 @@ shorter {bytes} {n} front behind is most =
     omega (arith, long, most)
 
 -- ---- memory that was refused
-
-at_most : (f : Fault) (low high : ℕ) → Rises (is_want_of_memory f) low high → low ≤ high
-at_most fault.Stopped low high rises = omega (arith, rises)
-at_most fault.NoMemory low high rises = omega (arith, rises)
-
--- a run that was stopped, by its writer or for want of memory
-pub counted-stopped : (outcome : Outcome) (f : Fault) (low high : ℕ) → (outcome ≡ WriteFault) ⊎ (outcome ≡ NoMemory)
-    → (outcome ≡ NoMemory → f ≡ fault.NoMemory) → Rises (is_want_of_memory f) low high → EndsCounted outcome low high
-counted-stopped outcome f low high (inl is) cause rises = subst (λ (o : Outcome). EndsCounted o low high) (sym is) (at_most f low high rises)
-counted-stopped outcome f low high (inr is) cause rises = subst (λ (o : Outcome). EndsCounted o low high) (sym is)
-    (subst (λ (e : Fault). Rises (is_want_of_memory e) low high) (cause is) rises)
 
 pub short_of : (outcome : Outcome) (failures low high : ℕ) → EndsCounted outcome low high → (outcome ≡ WriteFault → failures ≡ 1) → low < high
     → (outcome ≡ NoMemory) ⊎ ((outcome ≡ WriteFault) × (failures ≡ 1))

@@ -3,6 +3,7 @@ use Rattle.std.specs.Prelude.{is_err}
 use Rattle.std.specs.Io.KnownBytes.{Consumes}
 use Rattle.memory.specs.Refusing.{Rises}
 use Rattle.program_ends.proofs.ReadLemmas.{HasRead-more}
+use Rattle.conv_main.specs.declared.run.TheConstants.{READ_ROOM}
 use Rattle.conv_main.specs.Pieces.{begun_piece, whole_pieces}
 use Rattle.conv_main.specs.Progress.{Took}
 use Rattle.conv_main.proofs.Grown.{from_ok}
@@ -29,10 +30,12 @@ returns-then-is_err-clause-ends g c =
     let old = c.loop-turn.progress in let new = c.take_bytes-took.new.self in let bytes = take c.in-Ok.taken c.read_behind.new.buf in
     let t = either_took c.take_bytes-took.result c.args.way.now old.place new.place (whole_pieces c.args.way.now old.piece.items bytes)
     old.made.out.items new.made.out.items old.made.told.items new.made.told.items c.take_bytes-took.ensures.took c.take_bytes-took.ensures.err in
+    let long = length-take-le c.in-Ok.taken c.read_behind.new.buf c.in-Ok.ensures.bound.0 in
+    let few : length bytes ≤ READ_ROOM = omega (arith, long, c.in-Ok.ensures.bound.0, c.read_behind.auto.buf, c.loop-turn.auto.chunk, c.requires.room) in
     Ends-short new.place t.0 old.made.out.items new.made.out.items old.made.told.items new.made.told.items
     (g.R.Read.remaining c.read_behind.new.self.inner) (g.W.Write.contents c.deliver.new.writer.inner) (g.E.Write.contents c.deliver.new.teller.inner)
     bytes c.loop-turn.invariant.reached c.in-Ok.ensures.bytes.0 c.loop-turn.invariant.no_out c.loop-turn.invariant.no_line t.1
-    c.in-Ok-deliver.ensures.out.appends c.in-Ok-deliver.ensures.lines.appends
+    c.in-Ok-deliver.ensures.out.appends c.in-Ok-deliver.ensures.lines.appends few
 
 pub loop-turn-preserved : goal.loop-turn-preserved
 loop-turn-preserved g c =
