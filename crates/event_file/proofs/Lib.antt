@@ -9,7 +9,6 @@ pub mod GrammarRows
 pub mod HexPieces
 pub mod HexTables
 pub mod Joined
-pub mod LaidAddresses
 pub mod LineLemmas
 pub mod ManyWords
 pub mod MemoryLines

@@ -1,11 +1,11 @@
 -- The lines of messages, put one after another to the front of a room.
-use Rattle.std.proofs.Common.{◌≡◌, ℕ, ◌+◌, ◌*◌, ◌≤◌, List, [], ◌∷◌, ◌++◌, length, take, drop, refl, sym, ap, ◌∙◌, arith, append_assoc, append-nil, length-append, length-drop, length-take-le}
-use Rattle.std.proofs.lemmas.List.{drop-drop, drop_at, take_at}
+use Rattle.std.proofs.Common.{◌≡◌, ℕ, ◌+◌, ◌*◌, ◌≤◌, List, [], ◌∷◌, ◌++◌, length, take, drop, refl, sym, ap, ◌∙◌, arith, append_assoc, append-nil, length-append, length-drop}
 use Rattle.hex.specs.Hex.{encode_lower, lower_digits}
 use Rattle.hex.proofs.HexLemmas.{length-encode_with}
 use Rattle.route_core.specs.Received.{cut, AreMessages}
+use Rattle.route_msgs.specs.Pasted.{pasted}
+use Rattle.route_msgs.proofs.PutAddresses.{pasted-then, put_behind}
 use Rattle.event_file.specs.Answers.{message_line}
-use Rattle.event_file.specs.Given.{pasted}
 use Rattle.event_file.proofs.MessageLines.{lines, lines-append}
 
 pub length-message_line : (m : List ℕ) → length (message_line m) ≡ 5 + 2 * length m
@@ -13,22 +13,6 @@ length-message_line m =
     let e = length-encode_with lower_digits m in
     let f = length-append (encode_lower m) (10 ∷ []) in
     omega (arith, e, f)
-
--- what is put behind other bytes is put with them
-pub pasted-then : (at : ℕ) (xs ys room : List ℕ) → at + length xs ≤ length room → pasted (at + length xs) ys (pasted at xs room) ≡ pasted at (xs ++ ys) room
-pasted-then at xs ys room fits =
-    let n = at + length xs in
-    let front = take at room ++ xs in
-    let long : length front ≡ n = omega (arith, length-append (take at room) xs, length-take-le at room (omega arith)) in
-    let before : take n (pasted at xs room) ≡ front = take_at front (drop n room) n long in
-    let behind : drop n (pasted at xs room) ≡ drop n room = drop_at front (drop n room) n long in
-    let rest : drop (n + length ys) (pasted at xs room) ≡ drop (n + length ys) room =
-    sym (drop-drop (length ys) n (pasted at xs room)) ∙ ap (drop (length ys)) behind ∙ drop-drop (length ys) n room in
-    let end : n + length ys ≡ at + length (xs ++ ys) = omega (arith, length-append xs ys) in
-    ap (λ f. (f ++ ys) ++ drop (n + length ys) (pasted at xs room)) before
-    ∙ ap (λ d. (front ++ ys) ++ d) rest
-    ∙ ap (λ f. f ++ drop (n + length ys) room) (append_assoc (take at room) xs ys)
-    ∙ ap (λ m. (take at room ++ (xs ++ ys)) ++ drop m room) end
 
 -- three texts, each put behind the one before, are put together
 pub pasted_thrice : (at : ℕ) (xs ys zs room first second third : List ℕ) (here there : ℕ) → at + length xs + length ys ≤ length room → here ≡ at + length xs → there ≡ here + length ys
@@ -39,12 +23,6 @@ pasted_thrice at xs ys zs room first second third here there fits ends stops is_
     is_second ∙ ap (λ (n : ℕ). pasted n ys first) ends ∙ ap (λ (r : List ℕ). pasted (at + length xs) ys r) is_first ∙ pasted-then at xs ys room (omega (arith, fits)) in
     is_third ∙ ap (λ (n : ℕ). pasted n zs second) place ∙ ap (λ (r : List ℕ). pasted (at + length (xs ++ ys)) zs r) both
     ∙ pasted-then at (xs ++ ys) zs room (omega (arith, length-append xs ys, fits))
-
--- what was put behind others stands behind them
-pub put_behind : (at : ℕ) (xs room after : List ℕ) (end : ℕ) → at ≤ length room → end ≡ at + length xs → after ≡ pasted at xs room → take end after ≡ take at room ++ xs
-put_behind at xs room after end fits ended stands =
-    let long : length (take at room ++ xs) ≡ at + length xs = omega (arith, length-append (take at room) xs, length-take-le at room fits) in
-    ap (λ (n : ℕ). take n after) ended ∙ ap (take (at + length xs)) stands ∙ take_at (take at room ++ xs) (drop (at + length xs) room) (at + length xs) long
 
 -- the line of a message, put behind others
 pub line_behind : (at : ℕ) (m room after : List ℕ) (end : ℕ) → at ≤ length room → end ≡ at + (5 + 2 * length m) → after ≡ pasted at (message_line m) room

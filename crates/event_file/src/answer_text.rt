@@ -1,15 +1,17 @@
 //! The text of an answer, put into a room of the caller's.
 ghost use Rattle.std.specs.Prelude.{◌≡◌, ◌≤◌, ◌+◌, ◌*◌, ◌-◌, ◌^◌, ◌++◌, drop, length, min, flat_map};
 ghost use Rattle.event_file.specs.Answers.{closing_line as line_behind, message_line, messages_in, response_text, size_line as line_of_size};
-ghost use Rattle.event_file.specs.Given.{given, pasted};
+ghost use Rattle.event_file.specs.Given.{given};
 ghost use Rattle.hex.specs.Hex.{encode_lower};
 ghost use Rattle.route_core.specs.Received.{cut, AreMessages};
+ghost use Rattle.route_msgs.specs.Pasted.{pasted};
 
 use crate::answers::{put_size, refusal};
 use crate::choices::choice_line;
 use crate::{Bad, hexadecimal};
 use arrayvec::ArrayVec;
 use route_core::{Answer, first_message};
+use route_msgs::put;
 
 /// Puts the text of a line's answer, as `write_answer` writes it, to the front of `out` where there is room for all of
 /// it; where there is none, `out` stays as it was. Answers how many bytes the text has, at most `usize::MAX`.
@@ -121,16 +123,5 @@ fn put_hex(bytes: &[u8], out: &mut [u8], at: usize) -> usize
 {
     let end = at + 2 * bytes.len();
     hexadecimal::encode(bytes, &mut out[at..end]);
-    end
-}
-
-/// Puts bytes into `out` from a place on, and answers where they end.
-pub(crate) fn put(bytes: &[u8], out: &mut [u8], at: usize) -> usize
-    requires { at + length bytes.now ≤ length out.old }
-    ensures end { result ≡ at + length bytes.now }
-    ensures text { out.new ≡ pasted at bytes.now out.old }
-{
-    let end = at + bytes.len();
-    out[at..end].copy_from_slice(bytes);
     end
 }

@@ -2,16 +2,17 @@ ghost use Rattle.std.specs.Prelude.{◌≡◌, ◌+◌, ◌≤◌, ◌++◌, len
 ghost use Rattle.hex.specs.Hex.{encode_lower};
 ghost use Rattle.sock_addrs.specs.Errno.{errno_number};
 ghost use Rattle.event_file.specs.Answers.{answer_text, choice_line as line_of_choice, last_line, message_line, refusal_line, response_text, size_line as line_of_size};
-ghost use Rattle.event_file.specs.Given.{pasted};
 ghost use Rattle.event_file.specs.Output.{KeptBack, Wrote, WroteFront};
 ghost use Rattle.route_core.specs.Received.{cut, AreMessages};
+ghost use Rattle.route_msgs.specs.Pasted.{pasted};
 
-use crate::answer_text::{put, put_line};
+use crate::answer_text::put_line;
 use crate::choices::choice_line;
 use crate::output::write_bytes;
 use crate::{Bad, Counted, Stopped, hexadecimal};
 use arrayvec::ArrayVec;
 use route_core::{Answer, Choice, first_message};
+use route_msgs::put;
 use sock_addrs::Errno;
 use std::io::Write;
 

@@ -1,18 +1,19 @@
 //! The words of a `route` line, and the message that they compose.
-ghost use Rattle.std.specs.Prelude.{◌≡◌, ◌+◌, ◌≤◌, ◌++◌, drop, length, option_map};
-ghost use Rattle.sock_addrs.specs.Sockaddrs.{inet_sockaddr, mask_sockaddr};
-ghost use Rattle.route_msgs.specs.AddrInfo.{address_bytes, addrs_of, bit_of, bytes_or_none, gate_sockaddr};
-ghost use Rattle.event_file.specs.Given.{pasted};
+ghost use Rattle.std.specs.Prelude.{◌≡◌, ◌+◌, ◌≤◌, ◌++◌, drop, length};
+ghost use Rattle.route_msgs.specs.AddrInfo.{address_bytes, addrs_of};
+ghost use Rattle.route_msgs.specs.Pasted.{pasted};
 ghost use Rattle.event_file.specs.RouteWords.{addresses_named, bit_where, composed, header_said, kind_of, metrics_said, written_bits};
 
-use crate::answer_text::put;
 use mask_table::Prefix;
 use route_msgs::bits::{RTA_DST, RTA_GATEWAY, RTA_GENMASK, RTA_IFA, RTA_IFP, RTA_NETMASK};
 use route_msgs::inits::{
     RTV_EXPIRE, RTV_HOPCOUNT, RTV_MTU, RTV_RPIPE, RTV_RTT, RTV_RTTVAR, RTV_SPIPE, RTV_SSTHRESH,
 };
 use route_msgs::kinds::{RTM_ADD, RTM_CHANGE, RTM_DELETE, RTM_GET, RTM_LOCK};
-use route_msgs::{Header, Message, Metrics, Sockaddr, put_route_header};
+use route_msgs::{
+    ADDRESSES_OFFSET, Header, Message, Metrics, gate_bit, mask_bit, put_gate, put_inet, put_mask,
+    put_route_header,
+};
 use sock_addrs::{Gate, Inet};
 
 /// What a `route` line asks for.
@@ -98,11 +99,9 @@ pub struct RouteWords {
     pub metrics: MetricWords,
 }
 
-/// The most bytes of a message that is composed.
-pub(crate) const MOST_COMPOSED: usize = 204;
-
-/// Where the addresses of a message begin, behind its header.
-const ADDRESSES: usize = 76;
+/// The most bytes of a message that is composed: its header, an IPv4 address, two masks, and three addresses of either
+/// kind.
+pub(crate) const MOST_COMPOSED: usize = ADDRESSES_OFFSET + 16 + 2 * 8 + 3 * 32;
 
 /// The message that the words of a `route` line compose: version 3, the verb's type, the addresses that are named,
 /// and 0 in each field that no word names. At most 204 bytes.
@@ -166,66 +165,23 @@ fn addrs(words: &RouteWords) -> u32
 {
     RTA_DST
         + gate_bit(&words.gateway, RTA_GATEWAY)
-        + mask_bit(words.netmask, RTA_NETMASK)
-        + mask_bit(words.genmask, RTA_GENMASK)
+        + mask_bit(words.netmask.map(Prefix::bits), RTA_NETMASK)
+        + mask_bit(words.genmask.map(Prefix::bits), RTA_GENMASK)
         + gate_bit(&words.ifp, RTA_IFP)
         + gate_bit(&words.ifa, RTA_IFA)
-}
-
-fn gate_bit(gate: &Option<Gate>, bit: u32) -> u32
-    ensures { result ≡ bit_of bit (option_map gate_sockaddr gate.now) }
-{
-    if gate.is_some() { bit } else { 0 }
-}
-
-fn mask_bit(mask: Option<Prefix>, bit: u32) -> u32
-    ensures { result ≡ bit_of bit (option_map mask_sockaddr mask) }
-{
-    if mask.is_some() { bit } else { 0 }
 }
 
 /// Puts the addresses that it names to their place, and answers where they end.
 fn put_addresses(words: &RouteWords, room: &mut [u8]) -> usize
     requires { MOST_COMPOSED ≤ length room.old }
-    ensures end { result ≡ ADDRESSES + length (address_bytes (addresses_named words.now)) }
+    ensures end { result ≡ ADDRESSES_OFFSET + length (address_bytes (addresses_named words.now)) }
     ensures most { result ≤ MOST_COMPOSED }
-    ensures text { room.new ≡ pasted ADDRESSES (address_bytes (addresses_named words.now)) room.old }
+    ensures text { room.new ≡ pasted ADDRESSES_OFFSET (address_bytes (addresses_named words.now)) room.old }
 {
-    let gateway = put(
-        Sockaddr::inet(words.destination).as_bytes(),
-        room,
-        ADDRESSES,
-    );
+    let gateway = put_inet(words.destination, room, ADDRESSES_OFFSET);
     let netmask = put_gate(&words.gateway, room, gateway);
-    let genmask = put_mask(words.netmask, room, netmask);
-    let ifp = put_mask(words.genmask, room, genmask);
+    let genmask = put_mask(words.netmask.map(Prefix::bits), room, netmask);
+    let ifp = put_mask(words.genmask.map(Prefix::bits), room, genmask);
     let ifa = put_gate(&words.ifp, room, ifp);
     put_gate(&words.ifa, room, ifa)
-}
-
-/// Puts a gateway or an interface's address into `room` from a place on, where it is named, and answers where it ends.
-fn put_gate(gate: &Option<Gate>, room: &mut [u8], at: usize) -> usize
-    requires { at + 32 ≤ length room.old }
-    ensures end { result ≡ at + length (bytes_or_none (option_map gate_sockaddr gate.now)) }
-    ensures most { result ≤ at + 32 }
-    ensures text { room.new ≡ pasted at (bytes_or_none (option_map gate_sockaddr gate.now)) room.old }
-{
-    match gate {
-        Some(Gate::Inet(address)) => put(Sockaddr::inet(*address).as_bytes(), room, at),
-        Some(Gate::Link(link)) => put(Sockaddr::link(*link).as_bytes(), room, at),
-        None => at,
-    }
-}
-
-/// Puts a mask into `room` from a place on, where it is named, and answers where it ends.
-fn put_mask(mask: Option<Prefix>, room: &mut [u8], at: usize) -> usize
-    requires { at + 8 ≤ length room.old }
-    ensures end { result ≡ at + length (bytes_or_none (option_map mask_sockaddr mask)) }
-    ensures most { result ≤ at + 8 }
-    ensures text { room.new ≡ pasted at (bytes_or_none (option_map mask_sockaddr mask)) room.old }
-{
-    match mask {
-        Some(mask) => put(Sockaddr::mask(mask.bits()).as_bytes(), room, at),
-        None => at,
-    }
 }

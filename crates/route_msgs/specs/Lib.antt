@@ -3,6 +3,7 @@ pub mod Examples
 pub mod Headers
 pub mod Layout
 pub mod MsgErr
+pub mod Pasted
 pub mod Patches
 pub mod Slots
 pub mod Sockaddr

@@ -15,6 +15,7 @@ mod metrics;
 mod parsed;
 mod patches;
 pub mod places;
+mod putting;
 mod reading;
 mod sockaddr;
 mod writing;
@@ -25,6 +26,7 @@ pub use message::{MOST_MADE, Message};
 pub use metrics::Metrics;
 pub use parsed::{MsgErr, Parsed, Slot};
 pub use patches::{ERRNO_OFFSET, FLAGS_OFFSET, PID_OFFSET, set_errno, set_flags, set_pid};
+pub use putting::{ADDRESSES_OFFSET, gate_bit, mask_bit, put, put_gate, put_inet, put_mask};
 pub use reading::{read_header, read_message};
 pub use sockaddr::Sockaddr;
 pub use writing::{

@@ -1,12 +1,14 @@
 -- What one more route adds to a dump.
-use Rattle.std.proofs.Common.{◌≡◌, ◌≢◌, ℕ, zero, suc, ◌+◌, ◌-◌, ◌≤◌, ◌^◌, Bool, true, false, min, List, [], ◌∷◌, ◌++◌, filter, length, length-append, length-drop, length-take-le, append-nil, drop, take, take-append-drop, map, subst, Option, option_map, refl, sym, ap, ◌∙◌, arith}
-use Rattle.std.proofs.lemmas.List.{append_assoc, drop_at, take_at}
+use Rattle.std.proofs.Common.{◌≡◌, ◌≢◌, ℕ, zero, suc, ◌+◌, ◌-◌, ◌≤◌, ◌^◌, Bool, true, false, min, List, [], ◌∷◌, ◌++◌, filter, length, length-append, append-nil, drop, take, map, subst, Option, option_map, refl, sym, ap, ◌∙◌, arith}
+use Rattle.std.proofs.lemmas.List.{append_assoc}
 use Rattle.std.proofs.lemmas.List.Sums.{sum_by-cons}
+use Rattle.route_msgs.proofs.PutAddresses.{message_put, message_size, put_behind}
 use Rattle.route_msgs.proofs.SizesRead.{SaysLength, route_says}
 use Rattle.sock_addrs.specs.Sockaddrs.{inet_sockaddr, mask_sockaddr}
 use Rattle.mask_table.specs.Ranks.{mask_of}
 use Rattle.route_msgs.specs.AddrInfo.{address_bytes, addrs_of, bytes_or_none, gate_sockaddr}
 use Rattle.route_msgs.specs.Headers.{blank, route_head}
+use Rattle.route_msgs.specs.Pasted.{pasted}
 use Rattle.route_msgs.specs.declared.header.Header.{Header}
 use Rattle.route_msgs.specs.declared.kinds.TheConstants.{RTM_GET}
 use Rattle.if_addrs.specs.Interfaces.{Interface}
@@ -81,20 +83,16 @@ shown_whole index r size is most =
 -- ---- it is put to its place
 
 -- addresses that follow one another
-pub in_turn : (front a b c d : List ℕ) → (((front ++ a) ++ b) ++ c) ++ d ≡ front ++ (a ++ (b ++ (c ++ (d ++ []))))
-in_turn front a b c d = simp (append_assoc, append-nil)
+pub in_turn : (a b c d : List ℕ) → ((a ++ b) ++ c) ++ d ≡ a ++ (b ++ (c ++ (d ++ [])))
+in_turn a b c d = simp (append_assoc, append-nil)
 
--- a header that is put in front of what was put behind its place
-pub headed : (head behind room laid after : List ℕ) (size : ℕ) → 76 ≤ length room → length laid ≡ length room → length after ≡ length laid → size ≡ 76 + length behind
-    → take size laid ≡ take 76 room ++ behind → after ≡ head ++ drop 76 laid → take size after ≡ head ++ behind
-headed head behind room laid after size fits same still is stands put =
-    let rest = drop size laid in
-    let front : length (take 76 room) ≡ 76 = length-take-le 76 room fits in
-    let whole : laid ≡ take 76 room ++ (behind ++ rest) = sym (take-append-drop size laid) ∙ ap (λ (l : List ℕ). l ++ rest) stands ∙ append_assoc (take 76 room) behind rest in
-    let dropped : drop 76 laid ≡ behind ++ rest = ap (drop 76) whole ∙ drop_at (take 76 room) (behind ++ rest) 76 front in
-    let long : length head ≡ 76 = omega (arith, ap length put, length-append head (drop 76 laid), length-drop 76 laid, fits, same, still) in
-    ap (take size) (put ∙ ap (λ (l : List ℕ). head ++ l) dropped ∙ sym (append_assoc head behind rest))
-    ∙ take_at (head ++ behind) rest size (omega (arith, length-append head behind, long, is))
+-- the header put before them makes the message at the front of the room
+pub headed : (head behind room laid after : List ℕ) (size : ℕ) → 76 ≤ length room → size ≤ length room → length laid ≡ length room → length after ≡ length laid
+    → size ≡ 76 + length behind → laid ≡ pasted 76 behind room → after ≡ head ++ drop 76 laid → take size after ≡ head ++ behind
+headed head behind room laid after size header fits same still is stands put =
+    let whole : size ≡ 0 + length (head ++ behind) = omega (arith, message_size head head behind laid after size refl is (omega (arith, header, same)) put still) in
+    put_behind 0 (head ++ behind) room after size (omega arith) whole
+    (message_put head head behind room laid after size refl is fits stands put ∙ ap (λ (n : ℕ). (head ++ behind) ++ drop n room) whole)
 
 -- the header that says the size of the message and names its addresses
 pub head_is : (index : ℕ) (r : Entry Route) (size addrs : ℕ) (header : Header) → size ≡ 76 + length (address_bytes (route_addresses r.key r.rank r.value))

@@ -1,8 +1,8 @@
 use Rattle.std.proofs.Common.{arith}
 use Rattle.std.proofs.lemmas.Result.{on_err_weaker}
+use Rattle.route_msgs.proofs.PutAddresses.{put_behind}
 use Rattle.event_file.specs.Answers.{last_line}
 use Rattle.event_file.proofs.Fronts.{KeptBack-stopped, WroteFront-more, on_err}
-use Rattle.event_file.proofs.PutMessages.{put_behind}
 use Rattle.event_file.proofs.answers.write_received.Goals as goal
 
 pub returns-in_err-kept-clause-err : goal.returns-in_err-kept-clause-err

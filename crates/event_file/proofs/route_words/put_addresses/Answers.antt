@@ -1,10 +1,14 @@
-use Rattle.std.proofs.Common.{◌≡◌, ◌+◌, ◌∙◌, ◌++◌, ℕ, List, length, ap, arith}
+use Rattle.std.proofs.Common.{◌≡◌, ◌+◌, ◌∙◌, ◌++◌, ℕ, List, [], length, ap, arith, rules, append_assoc, append-nil}
 use Rattle.std.specs.Prelude.{option_map}
 use Rattle.sock_addrs.specs.Sockaddrs.{inet_sockaddr, mask_sockaddr}
 use Rattle.route_msgs.specs.AddrInfo.{bytes_or_none, gate_sockaddr}
-use Rattle.event_file.specs.Given.{pasted}
-use Rattle.event_file.proofs.LaidAddresses.{Laid, Laid-more, in_turn}
+use Rattle.route_msgs.specs.Pasted.{pasted}
+use Rattle.route_msgs.proofs.PutAddresses.{Laid, Laid-more}
 use Rattle.event_file.proofs.route_words.put_addresses.Goals as goal
+
+-- addresses in the order in which they follow each other
+in_turn : (a b c d e f : List ℕ) → ((((a ++ b) ++ c) ++ d) ++ e) ++ f ≡ a ++ (b ++ (c ++ (d ++ (e ++ (f ++ [])))))
+in_turn a b c d e f = simp (append_assoc, append-nil)
 
 pub returns : goal.returns
 returns c =
@@ -15,19 +19,20 @@ returns c =
     let genmask = bytes_or_none (option_map mask_sockaddr w.genmask) in
     let ifp = bytes_or_none (option_map gate_sockaddr w.ifp) in
     let ifa = bytes_or_none (option_map gate_sockaddr w.ifa) in
-    let is : c.as_bytes.result.now ≡ dst = c.as_bytes.ensures.bytes ∙ c.inet.ensures.sockaddr in
-    let first : Laid room c.put-gateway.new.out c.put-gateway.result dst = record {
-      stand = c.put-gateway.ensures.text ∙ ap (λ (b : List ℕ). pasted 76 b room) is;
-      ended = c.put-gateway.ensures.end ∙ ap (λ (b : List ℕ). 76 + length b) is;
+    let is_netmask : c.map.result ≡ w.netmask = search rules in
+    let is_genmask : c.map-2.result ≡ w.genmask = search rules in
+    let first : Laid room c.put_inet-gateway.new.room c.put_inet-gateway.result dst = record {
+      stand = c.put_inet-gateway.ensures.text;
+      ended = c.put_inet-gateway.ensures.end;
     } in
-    let second = Laid-more room c.put-gateway.new.out c.put_gate-netmask.new.room c.put-gateway.result c.put_gate-netmask.result dst gateway
+    let second = Laid-more room c.put_inet-gateway.new.room c.put_gate-netmask.new.room c.put_inet-gateway.result c.put_gate-netmask.result dst gateway
     first (omega arith) c.put_gate-netmask.ensures.text c.put_gate-netmask.ensures.end in
     let third = Laid-more room c.put_gate-netmask.new.room c.put_mask-genmask.new.room c.put_gate-netmask.result c.put_mask-genmask.result
     (dst ++ gateway) netmask
-    second (omega arith) c.put_mask-genmask.ensures.text c.put_mask-genmask.ensures.end in
+    second (omega arith) (rw is_netmask at c.put_mask-genmask.ensures.text) (rw is_netmask at c.put_mask-genmask.ensures.end) in
     let fourth = Laid-more room c.put_mask-genmask.new.room c.put_mask-ifp.new.room c.put_mask-genmask.result c.put_mask-ifp.result
     ((dst ++ gateway) ++ netmask) genmask
-    third (omega arith) c.put_mask-ifp.ensures.text c.put_mask-ifp.ensures.end in
+    third (omega arith) (rw is_genmask at c.put_mask-ifp.ensures.text) (rw is_genmask at c.put_mask-ifp.ensures.end) in
     let fifth = Laid-more room c.put_mask-ifp.new.room c.put_gate-ifa.new.room c.put_mask-ifp.result c.put_gate-ifa.result
     (((dst ++ gateway) ++ netmask) ++ genmask) ifp
     fourth (omega arith) c.put_gate-ifa.ensures.text c.put_gate-ifa.ensures.end in

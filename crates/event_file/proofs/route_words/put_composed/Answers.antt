@@ -1,9 +1,9 @@
 use Rattle.std.proofs.Common.{◌≡◌, ◌+◌, ◌∙◌, ℕ, length, ap, arith}
+use Rattle.route_msgs.proofs.PutAddresses.{message_put, message_size}
 use Rattle.route_msgs.specs.AddrInfo.{address_bytes, addrs_of}
 use Rattle.route_msgs.specs.Headers.{route_head}
 use Rattle.route_msgs.specs.declared.header.Header.{Header}
 use Rattle.event_file.specs.RouteWords.{addresses_named, header_said}
-use Rattle.event_file.proofs.LaidAddresses.{message_put, message_size}
 use Rattle.event_file.proofs.route_words.put_composed.Goals as goal
 
 head_is : (size addrs : ℕ) (h i : Header) (bytes named : ℕ) → size ≡ bytes → addrs ≡ named → h ≡ i → route_head size addrs h ≡ route_head bytes named i

@@ -15,7 +15,7 @@ returns c =
     let size = laid.result in
     let behind = address_bytes (route_addresses r.key r.rank r.value) in
     let put = headed (route_head size c.addrs.result c.header.result) behind c.args.room.now laid.new.room c.put_route_header.new.out size
-    (omega arith) (search rules) (search rules) laid.ensures.end laid.ensures.text c.put_route_header.ensures in
+    (omega arith) (omega arith) (search rules) (search rules) laid.ensures.end laid.ensures.text c.put_route_header.ensures in
     let is : take size c.put_route_header.new.out ≡ shown_as c.args.index r = put ∙ head_is c.args.index r size c.addrs.result c.header.result laid.ensures.end (c.addrs.ensures r.key) c.header.ensures in
     record {
       most = laid.ensures.most;
