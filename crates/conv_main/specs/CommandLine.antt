@@ -58,5 +58,6 @@ NamesNone words = (side_of (word_of (codes "FROM") words) ≡ None) ⊎ (side_of
 -- holds, and they name a FILE
 abbrev pub Refuses : List Text → Refusal → Type 0
 Refuses words Usage = (faults_of words ≢ []) ⊎ NamesNone words
-Refuses words Unopened = (faults_of words ≡ []) × (NamesNone words → ⊥) × (is_some (word_of (codes "FILE") words) ≡ true)
+Refuses words Unopened =
+    (faults_of words ≡ []) × (NamesNone words → ⊥) × (is_some (word_of (codes "FILE") words) ≡ true)
 Refuses words NoMemory = ⊤

@@ -17,7 +17,8 @@ has_line (b ∷ bs) = true
 
 -- it wrote all that the reader had with each message in the other layout, and told of those that have no counterpart
 -- there, of at least one or of none
-pub record ConvertedAll (w : Way) (refused : Bool) (before after old new old_told new_told : Option (List ℕ)) : Type 0 where
+pub record ConvertedAll (w : Way) (refused : Bool)
+    (before after old new old_told new_told : Option (List ℕ)) : Type 0 where
   pub read : List ℕ
   pub consumes : Consumes before after read
   pub all : IsAtEnd after
@@ -74,7 +75,8 @@ pub record ConvertedFirst (w : Way) (before after old new old_told new_told : Op
   pub tells : Appends old_told new_told (told w first_place done)
 
 -- what a run with this outcome did
-abbrev pub Ends : Outcome → Way → Option (List ℕ) → Option (List ℕ) → Option (List ℕ) → Option (List ℕ) → Option (List ℕ) → Option (List ℕ) → Type 0
+abbrev pub Ends : Outcome → Way → Option (List ℕ) → Option (List ℕ) → Option (List ℕ) → Option (List ℕ)
+    → Option (List ℕ) → Option (List ℕ) → Type 0
 Ends Done w before after old new old_told new_told = ConvertedAll w false before after old new old_told new_told
 Ends BadLine w before after old new old_told new_told = ConvertedAll w true before after old new old_told new_told
 Ends ReadFault w before after old new old_told new_told = ConvertedWhole w before after old new old_told new_told

@@ -32,7 +32,8 @@ whole_pieces w begun (b ∷ bs) =
 -- what has come of a piece behind them
 abbrev pub begun_piece : Way → List ℕ → List ℕ → List ℕ
 begun_piece w begun [] = begun
-begun_piece w begun (b ∷ bs) = cond (is_whole w (begun ++ b ∷ [])) (begun_piece w [] bs) (begun_piece w (begun ++ b ∷ []) bs)
+begun_piece w begun (b ∷ bs) =
+    cond (is_whole w (begun ++ b ∷ [])) (begun_piece w [] bs) (begun_piece w (begun ++ b ∷ []) bs)
 
 -- what is left at the end of a text is a piece where it has a byte
 abbrev pub last_piece : List ℕ → List (List ℕ)

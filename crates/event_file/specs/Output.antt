@@ -19,7 +19,8 @@ pub record WroteFront {T : Type 0} (contents : T → Option (List ℕ)) (old new
   pub reads : new.reads ≡ old.reads
 
 -- the writer took a front of the text, what is kept back is the rest of it, and nothing failed
-pub record KeptBack {T : Type 0} (contents : T → Option (List ℕ)) (old new : Counts T) (text kept : List ℕ) : Type 0 where
+pub record KeptBack {T : Type 0} (contents : T → Option (List ℕ)) (old new : Counts T)
+    (text kept : List ℕ) : Type 0 where
   pub written : List ℕ
   pub whole : text ≡ written ++ kept
   pub wrote : Wrote contents old new written

@@ -82,7 +82,8 @@ pub record ToldLines (o : Shows) (before after old new : Option (List ℕ)) : Ty
 
 -- what a run did that ended with an outcome: how much it read, told and wrote. Where all lines were told, or a read
 -- failed, its lab was left in this state, behind the last line that was told; otherwise nothing is said of the lab
-abbrev pub Ends : Shows → Outcome → Option (List ℕ) → Option (List ℕ) → Option (List ℕ) → Option (List ℕ) → State → Type 0
+abbrev pub Ends : Shows → Outcome → Option (List ℕ) → Option (List ℕ) → Option (List ℕ) → Option (List ℕ) → State
+    → Type 0
 Ends o Done before after old new last = ToldAll o before after old new last false
 Ends o BadLine before after old new last = ToldAll o before after old new last true
 Ends o ReadFault before after old new last = ToldEnded o before after old new last

@@ -9,11 +9,13 @@ use Rattle.lab_main.specs.Texts.{wrong_text}
 
 -- of a line behind `?` that asks nothing
 abbrev pub any_question : List ℕ
-any_question = codes "bad: wanted: one of ?table, ?tree, ?find A, ?why A, ?interfaces, ?sockets, ?help, ?help VERB, ?quit\n"
+any_question =
+    codes "bad: wanted: one of ?table, ?tree, ?find A, ?why A, ?interfaces, ?sockets, ?help, ?help VERB, ?quit\n"
 
 -- that its second word is wrong
 abbrev pub second_wrong : List ℕ → Wanted → List ℕ
-second_wrong word wanted = codes "bad: word 2" ++ wrong_text word ++ codes "; wanted: " ++ wanted_text wanted ++ codes "\n"
+second_wrong word wanted =
+    codes "bad: word 2" ++ wrong_text word ++ codes "; wanted: " ++ wanted_text wanted ++ codes "\n"
 
 -- where it has a word that is to be an address
 abbrev pub address_wrong : Option (List ℕ) → List ℕ

@@ -6,7 +6,8 @@ use Rattle.lab_main.specs.Telling.{State, Told, fresh}
 use Rattle.lab_main.specs.declared.shows.Shows.{Shows}
 
 -- lines were read, at least so many, and told, and this stands behind them
-pub record Reached (least : ℕ) (o : Shows) (before after old new : Option (List ℕ)) (now : State) (behind : List ℕ) : Type 0 where
+pub record Reached (least : ℕ) (o : Shows) (before after old new : Option (List ℕ)) (now : State)
+    (behind : List ℕ) : Type 0 where
   pub lines : List (List ℕ)
   pub text : List ℕ
   pub cut : Cut before after lines behind

@@ -30,7 +30,8 @@ abbrev pub quoted_wrong : List ℕ → List ℕ
 quoted_wrong word = codes " (`" ++ visible word ++ codes "`) is wrong"
 
 abbrev pub wrong_text : List ℕ → List ℕ
-wrong_text word = if length word == 0 then codes " is empty, since words are parted by single spaces" else quoted_wrong word
+wrong_text word =
+    if length word == 0 then codes " is empty, since words are parted by single spaces" else quoted_wrong word
 
 -- each line of a text behind four spaces
 unfoldable pub indented : List ℕ → List ℕ

@@ -11,4 +11,5 @@ AreNone counts = (rank : ℕ) → rank ≤ 33 → count_of rank counts ≡ 0
 
 -- the larger counts have one more of this rank, and of each other rank as many
 abbrev pub HasOneMore : ℕ → List ℕ → List ℕ → Type 0
-HasOneMore rank smaller larger = (r : ℕ) → r ≤ 33 → count_of r larger ≡ count_of r smaller + (if r == rank then 1 else 0)
+HasOneMore rank smaller larger =
+    (r : ℕ) → r ≤ 33 → count_of r larger ≡ count_of r smaller + (if r == rank then 1 else 0)

@@ -12,4 +12,5 @@ AreRanks bits = (i : ℕ) → 33 < i → bit_at bits i ≡ 0
 -- the greatest rank of a set below a number, or none is below it
 abbrev pub IsGreatestBelow : ℕ → ℕ → Option ℕ → Type 0
 IsGreatestBelow number ranks None = (r : ℕ) → r < number → HasRank ranks r → ⊥
-IsGreatestBelow number ranks (Some rank) = (rank < number) × HasRank ranks rank × ((r : ℕ) → rank < r → r < number → HasRank ranks r → ⊥)
+IsGreatestBelow number ranks (Some rank) =
+    (rank < number) × HasRank ranks rank × ((r : ℕ) → rank < r → r < number → HasRank ranks r → ⊥)

@@ -50,7 +50,8 @@ kept_mask_node true node = Some node
 kept_mask_node false node = None
 
 abbrev pub mask_node_of : Links → Option MaskNode
-mask_node_of l = kept_mask_node (has l.flags IS_MASK_NODE) (record { next = id_in (has l.flags HAS_NEXT_MASK) l.next_mask })
+mask_node_of l =
+    kept_mask_node (has l.flags IS_MASK_NODE) (record { next = id_in (has l.flags HAS_NEXT_MASK) l.next_mask })
 
 -- the links of a room that has just been lodged: a leaf by itself, which is no bit node and no mask node
 pub record IsBlank (l : Links) : Type 0 where

@@ -31,7 +31,8 @@ room_in None = 0
 room_in (Some room) = room.value
 
 -- the changes up to one; where none was before it, there is none yet
-abbrev pub history : Option (Snapshot (List (ℕ × Option ℕ))) → Option (Snapshot ℕ) → Option (Snapshot ℕ) → List (ℕ × Option ℕ)
+abbrev pub history : Option (Snapshot (List (ℕ × Option ℕ))) → Option (Snapshot ℕ) → Option (Snapshot ℕ)
+    → List (ℕ × Option ℕ)
 history None room number = []
 history (Some before) room number = (room_in room, option_map (λ s. s.value) number) ∷ before.value
 

@@ -17,7 +17,8 @@ use Rattle.radix_nodes.specs.Naming.{number_of}
 -- what a bit node says once it names another node on the side of an address
 abbrev pub with_child : ℕ → Node → Option BitPart → Option BitPart
 with_child address to None = None
-with_child address to (Some p) = Some (if bit_at p.bit address == 1 then record p { one = to } else record p { zero = to })
+with_child address to (Some p) =
+    Some (if bit_at p.bit address == 1 then record p { one = to } else record p { zero = to })
 
 -- what number n says once the bit node above a place, where there is one, names another node there
 abbrev pub name_child : Option Id → ℕ → Node → ℕ → Option BitPart → Option BitPart

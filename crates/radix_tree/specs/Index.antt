@@ -32,4 +32,5 @@ module _ {V : Type 0} where
   -- each room that it has for a pair has a route of that pair; and where it is whole, it has the room of each route
   pub record Indexes (h : Held) (m : Lodged V) : Type 0 where
     pub found : (k : ℕ) (room : Id) → Names h k room → places_in m (number_of room) ≡ Some (room.block, k)
-    pub all : h.whole ≡ true → (n : ℕ) (place : Ptr × ℕ) → places_in m n ≡ Some place → (room : Id) × Names h place.1 room × (number_of room ≡ n)
+    pub all : h.whole ≡ true → (n : ℕ) (place : Ptr × ℕ) → places_in m n ≡ Some place
+        → (room : Id) × Names h place.1 room × (number_of room ≡ n)

@@ -30,7 +30,8 @@ module _ {V : Type 0} where
 
   -- the rooms are a tree beneath the root, its routes are counted and found by the index, and each room has a number
   -- that was given
-  pub record IsKept (nodes : Rooms V) (root : Option Node) (counts : List ℕ) (index : Held) (given : List (ℕ × ℕ)) (last : ℕ) : Type 0 where
+  pub record IsKept (nodes : Rooms V) (root : Option Node) (counts : List ℕ) (index : Held) (given : List (ℕ × ℕ))
+      (last : ℕ) : Type 0 where
     pub holds : Holds nodes.lodged root
     pub counted : AreCounted counts (shown nodes.lodged root)
     pub indexed : Indexes index nodes.lodged

@@ -22,7 +22,8 @@ module _ {V : Type 0} where
   unfoldable pub up_behind : ℕ → Leaves V → Bits → ℕ → Option Id → List (Entry V)
   up_behind zero L B key above = []
   up_behind (suc n) L B key None = []
-  up_behind (suc n) L B key (Some up) = side_behind key (beneath_shown levels L B) (up_behind n L B key) (B (number_of up))
+  up_behind (suc n) L B key (Some up) =
+      side_behind key (beneath_shown levels L B) (up_behind n L B key) (B (number_of up))
 
   -- what stands behind the chain of a first room
   abbrev pub chain_behind : Leaves V → Bits → Option (LeafPart V) → List (Entry V)

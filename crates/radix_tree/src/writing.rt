@@ -98,7 +98,8 @@ impl<V: Drop> Table<V> {
         requires free { uses room self.old.numbers ≡ 0 }
         requires masked { masked rank key ≡ key }
         requires absent { entry_at key rank self.old.entries ≡ None }
-        ensures entries { self.new.entries ≡ with_entry (record { key = key; rank = rank; value = value }) self.old.entries }
+        ensures entries { self.new.entries
+            ≡ with_entry (record { key = key; rank = rank; value = value }) self.old.entries }
         ensures numbers { (n : ℕ) → uses n self.new.numbers ≡ uses n self.old.numbers + (if room == n then 1 else 0) }
         ensures next { self.new.next ≡ self.old.next }
         ensures turn { self.new.turn ≡ self.old.turn + 1 }

@@ -45,7 +45,8 @@ pub record Keeps (old new : Held) : Type 0 where
 -- it has the room of one pair more; or it was given up, and has no room at all
 pub record Enters (old new : Held) (pair : ℕ) (room : Id) : Type 0 where
   pub only : (k : ℕ) (r : Id) → Names new k r → ((k ≡ pair) × (r ≡ room)) ⊎ Names old k r
-  pub more : new.whole ≡ true → (old.whole ≡ true) × Names new pair room × ((k : ℕ) (r : Id) → Names old k r → Names new k r)
+  pub more : new.whole ≡ true → (old.whole ≡ true) × Names new pair room
+      × ((k : ℕ) (r : Id) → Names old k r → Names new k r)
 
 -- it has none for a pair any more; or it was given up
 pub record Loses (old new : Held) (pair : ℕ) : Type 0 where

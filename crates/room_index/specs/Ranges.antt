@@ -56,7 +56,8 @@ TellsRank r address rank = (length r.ranks.items ≤ range_of r.bits (pair addre
 
 -- the rank of a pair is told of each address that its network has
 abbrev pub IsTold : Ranges → ℕ → Type 0
-IsTold r of = of % 64 ≤ 33 → (address : ℕ) → address < 2 ^ 32 → masked (of % 64) address ≡ of / 64 → TellsRank r address (of % 64)
+IsTold r of =
+    of % 64 ≤ 33 → (address : ℕ) → address < 2 ^ 32 → masked (of % 64) address ≡ of / 64 → TellsRank r address (of % 64)
 
 -- that of each entry is
 abbrev pub AreTold : Ranges → Places → Type 0

@@ -200,7 +200,8 @@ on_table w table notices answer = record (answered w answer) { table = table; to
 -- `packet`: a look-up, one more use of its answer, and then its fate
 abbrev pub packet_by : World → Look → Option (Entry Route) → Effect
 packet_by w it None = on_table w it.table it.messages (Refused EHOSTUNREACH)
-packet_by w it (Some r) = on_table w (with_entry (entry_with_one_more_use r) it.table) it.messages (fate_of w.interfaces r)
+packet_by w it (Some r) =
+    on_table w (with_entry (entry_with_one_more_use r) it.table) it.messages (fate_of w.interfaces r)
 
 abbrev pub packet_effect : World → ℕ → Effect
 packet_effect w destination = let it = look true (gate.Inet destination) w.table in packet_by w it it.answer

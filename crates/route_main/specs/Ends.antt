@@ -12,7 +12,8 @@ use Rattle.program_ends.specs.declared.outcome.Outcome.TheVariants.{Done, BadLin
 -- computes.
 
 -- it wrote a transcript of all that the reader had; of a malformed line among it or of none
-pub record AnsweredAll (is : List ℕ → List ℕ → Type 0) (before after old new : Option (List ℕ)) (is_bad : Bool) : Type 0 where
+pub record AnsweredAll (is : List ℕ → List ℕ → Type 0) (before after old new : Option (List ℕ))
+    (is_bad : Bool) : Type 0 where
   pub read : List ℕ
   pub written : List ℕ
   pub consumes : Consumes before after read
@@ -63,7 +64,8 @@ abbrev pub Ends : Outcome → Option (List ℕ) → Option (List ℕ) → Option
 Ends outcome before after old new = EndsBy IsTranscript outcome before after old new
 
 -- and memory was refused so often before it and so often after it
-abbrev pub EndsCounted : Outcome → Option (List ℕ) → Option (List ℕ) → Option (List ℕ) → Option (List ℕ) → ℕ → ℕ → Type 0
+abbrev pub EndsCounted : Outcome → Option (List ℕ) → Option (List ℕ) → Option (List ℕ) → Option (List ℕ) → ℕ → ℕ
+    → Type 0
 EndsCounted outcome before after old new low high =
     EndsBy (λ script text. IsTranscriptCounted script text low high) outcome before after old new
 

@@ -42,7 +42,8 @@ pub record Answers (from to : Standing) (old new : Option (List ℕ)) (lines : L
   pub bad : to.has_bad ≡ (from.has_bad || has_bad_line lines)
 
 -- the writer stopped within what these lines may be answered, and memory was refused so often until then
-pub record StopsWithin (from : Standing) (refused : ℕ) (old new : Option (List ℕ)) (lines : List (Option (List ℕ))) : Type 0 where
+pub record StopsWithin (from : Standing) (refused : ℕ) (old new : Option (List ℕ))
+    (lines : List (Option (List ℕ))) : Type 0 where
   pub written : List ℕ
   pub unwritten : List ℕ
   pub last : World
@@ -60,13 +61,16 @@ pub record Advances (from to : Standing) (old new : Option (List ℕ)) (bytes : 
       → Progress first to start new (read ++ bytes) next
 
 -- a run that had come to this standing and line was stopped by its writer within these bytes
-pub record Breaks (from : Standing) (refused : ℕ) (old new : Option (List ℕ)) (bytes : List ℕ) (line : Line) : Type 0 where
+pub record Breaks (from : Standing) (refused : ℕ) (old new : Option (List ℕ)) (bytes : List ℕ)
+    (line : Line) : Type 0 where
   pub on : (first : Standing) (start : Option (List ℕ)) (read : List ℕ) → Progress first from start old read line
       → StopsWithin first refused start new (answered_lines (ended_lines (read ++ bytes)))
 
 -- a run that had come to this standing and line at the end of its script ends so
-pub record Finishes (outcome : Outcome) (from : Standing) (refused : ℕ) (old new : Option (List ℕ)) (line : Line) : Type 0 where
-  pub on : (count : ℕ) (before after start : Option (List ℕ)) (read : List ℕ) → Consumes before after read → IsAtEnd after
+pub record Finishes (outcome : Outcome) (from : Standing) (refused : ℕ) (old new : Option (List ℕ))
+    (line : Line) : Type 0 where
+  pub on : (count : ℕ) (before after start : Option (List ℕ)) (read : List ℕ) → Consumes before after read
+      → IsAtEnd after
       → Progress (standing fresh count) from start old read line
       → EndsCounted outcome before after start new count refused
 

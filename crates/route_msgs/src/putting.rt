@@ -67,6 +67,7 @@ pub fn put_mask(bits: Option<u8>, room: &mut [u8], at: usize) -> usize
 }
 
 /// The bit in the addrs field of a gateway or an interface's address, where there is one.
+#[inline(always)]
 pub fn gate_bit(gate: &Option<Gate>, bit: u32) -> u32
     ensures { result ≡ bit_of bit (option_map gate_sockaddr gate.now) }
 {
@@ -74,6 +75,7 @@ pub fn gate_bit(gate: &Option<Gate>, bit: u32) -> u32
 }
 
 /// The bit in the addrs field of the mask of so many bits, where there is one.
+#[inline(always)]
 pub fn mask_bit(bits: Option<u8>, bit: u32) -> u32
     ensures { result ≡ bit_of bit (option_map mask_sockaddr bits) }
 {

@@ -10,5 +10,6 @@ value_of byte =
 
 -- what stands behind `msg ` on a line that begins so and goes on
 abbrev pub behind_msg : List ℕ → Option (List ℕ)
-behind_msg (m ∷ s ∷ g ∷ space ∷ b ∷ bs) = if bytes_eq (m ∷ s ∷ g ∷ space ∷ []) (codes "msg ") then Some (b ∷ bs) else None
+behind_msg (m ∷ s ∷ g ∷ space ∷ b ∷ bs) =
+    if bytes_eq (m ∷ s ∷ g ∷ space ∷ []) (codes "msg ") then Some (b ∷ bs) else None
 behind_msg _ = None

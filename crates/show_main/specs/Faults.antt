@@ -18,7 +18,8 @@ is_want_of_memory Stopped = false
 is_want_of_memory NoMemory = true
 
 -- the writer took what stands before some unwritten rest of the text
-pub record ShowedFront (fault : Fault) {T : Type 0} (contents : T → Option (List ℕ)) (old new : Counts T) (text : List ℕ) : Type 0 where
+pub record ShowedFront (fault : Fault) {T : Type 0} (contents : T → Option (List ℕ)) (old new : Counts T)
+    (text : List ℕ) : Type 0 where
   pub written : List ℕ
   pub unwritten : List ℕ
   pub whole : text ≡ written ++ unwritten
@@ -26,7 +27,8 @@ pub record ShowedFront (fault : Fault) {T : Type 0} (contents : T → Option (Li
   pub failures : new.failures ≡ old.failures + failures_of fault
 
 -- of the whole lines of a text those were shown that stand before this rest of them
-pub record ShowedLines {T : Type 0} (contents : T → Option (List ℕ)) (old new : Counts T) (text : List ℕ) (rest : List (List ℕ)) : Type 0 where
+pub record ShowedLines {T : Type 0} (contents : T → Option (List ℕ)) (old new : Counts T) (text : List ℕ)
+    (rest : List (List ℕ)) : Type 0 where
   pub done : List (List ℕ)
   pub lines : whole_lines text ≡ done ++ rest
   pub wrote : Wrote contents old new (shown_lines done)

@@ -22,4 +22,5 @@ graph name low (fork b zeros ones) = node_dot name (node_line b (masks_of low b 
 -- the graph of a table's routes
 abbrev pub graph_text : List Pair → List ℕ
 graph_text [] = codes "digraph tree {\n}\n"
-graph_text (p ∷ ps) = codes "digraph tree {\nnode [shape=box]\n" ++ graph (codes "n") 0 (tree_of (p ∷ ps)) ++ codes "}\n"
+graph_text (p ∷ ps) =
+    codes "digraph tree {\nnode [shape=box]\n" ++ graph (codes "n") 0 (tree_of (p ∷ ps)) ++ codes "}\n"

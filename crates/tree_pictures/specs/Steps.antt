@@ -41,7 +41,8 @@ way_text low address (fork b zeros ones) = down_line b address
 
 -- `the best route of 10.0.0.7 is 10.0.0.0/16`
 abbrev pub best_line : ℕ → Pair → List ℕ
-best_line address p = codes "the best route of " ++ inet_word address ++ codes " is " ++ destination_word p.key p.rank ++ codes "\n"
+best_line address p =
+    codes "the best route of " ++ inet_word address ++ codes " is " ++ destination_word p.key p.rank ++ codes "\n"
 
 abbrev pub answer_line : ℕ → Option Pair → List ℕ
 answer_line address None = inet_word address ++ codes " has no route\n"
@@ -50,4 +51,5 @@ answer_line address (Some p) = best_line address p
 -- the search in the tree of a table's routes
 abbrev pub find_text : ℕ → List Pair → List ℕ
 find_text address [] = empty_line ++ answer_line address None
-find_text address (p ∷ ps) = way_text 0 address (tree_of (p ∷ ps)) ++ answer_line address (found 0 address (tree_of (p ∷ ps)))
+find_text address (p ∷ ps) =
+    way_text 0 address (tree_of (p ∷ ps)) ++ answer_line address (found 0 address (tree_of (p ∷ ps)))

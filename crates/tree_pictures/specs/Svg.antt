@@ -60,7 +60,8 @@ box_start label column row = codes "<g transform=\"translate(" ++ point column r
 
 -- its frame, ten high for each line and four more, with corners as the last word says; then come the lines
 abbrev pub frame : ℕ → List ℕ → List ℕ
-frame count corners = codes "<rect x=\"-47\" width=\"94\" height=\"" ++ decimal count ++ codes "4\"" ++ corners ++ codes "/><text>"
+frame count corners =
+    codes "<rect x=\"-47\" width=\"94\" height=\"" ++ decimal count ++ codes "4\"" ++ corners ++ codes "/><text>"
 
 abbrev pub box_end : List ℕ
 box_end = codes "</text></g>\n"

@@ -41,7 +41,8 @@ agreeing_heading address routes =
 
 -- which routes agree with an address, and which of them is taken
 abbrev pub agreeing_words : ℕ → List RouteTold → World → List ℕ
-agreeing_words address routes w = agreeing_heading address routes ++ flat_map (agreeing_line w) (in_order address routes)
+agreeing_words address routes w =
+    agreeing_heading address routes ++ flat_map (agreeing_line w) (in_order address routes)
 
 -- ---- a law
 

@@ -35,7 +35,8 @@ toward_words r = if has_bit r.flags RTF_GATEWAY then codes " to " ++ gate_word r
 
 -- the route that it takes, at the end of a line
 abbrev pub route_words : Choice → List ℕ
-route_words r = codes "the route " ++ destination_word r.key r.rank ++ codes " (flags " ++ flags_word r.flags ++ codes ")\n"
+route_words r =
+    codes "the route " ++ destination_word r.key r.rank ++ codes " (flags " ++ flags_word r.flags ++ codes ")\n"
 
 abbrev pub routed_words : Command → Choice → World → List ℕ
 routed_words c r w =

@@ -74,7 +74,8 @@ reason_of c errno.EADDRINUSE = codes "an interface holds the address already"
 reason_of c errno.EADDRNOTAVAIL = codes "the interface does not hold the address"
 reason_of c errno.ENETUNREACH = network_reason c
 reason_of c errno.ENOBUFS = codes "there is no memory; nothing was changed"
-reason_of c errno.ETOOMANYREFS = codes "no route of this destination has this mask; without a mask a host's route is meant"
+reason_of c errno.ETOOMANYREFS =
+    codes "no route of this destination has this mask; without a mask a host's route is meant"
 reason_of c errno.EHOSTUNREACH = host_reason c
 
 -- the errno's name and number, and the reason, on a line
