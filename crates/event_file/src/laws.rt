@@ -47,6 +47,7 @@ pub fn read_is_within_bounds()
 pub fn scripts_lead_to_worlds()
     ensures { ScriptsLeadToWorlds }
 {
+    // A fact for the proof.
     read_is_within_bounds();
 }
 
@@ -56,6 +57,7 @@ pub fn route_lines_are_read()
     ensures composed { ComposedIsRead }
     ensures lines { RouteLinesAreRead }
 {
+    // Facts for the proof.
     written_is_read();
     sockaddrs_are_read();
 }
@@ -139,6 +141,7 @@ pub fn transcript_is_computed()
 pub fn computed_has_memory()
     ensures { ComputedHasMemory }
 {
+    // Facts for the proof.
     effects_have_memory();
     left_out_for_room();
 }
@@ -152,6 +155,7 @@ pub fn each_refusal_is_counted()
     ensures unrefused { UnrefusedIsComputed }
     ensures computed { ComputedIsCounted }
 {
+    // Facts for the proof.
     effects_have_memory();
     left_out_for_room();
 }
@@ -170,6 +174,7 @@ pub fn transcript_is_run()
 pub fn others_leave_the_text()
     ensures { OthersLeaveTheText }
 {
+    // A fact for the proof.
     others_do_not_disturb();
 }
 

@@ -24,7 +24,7 @@ pub use answers::{TEXT_ROOM, write_answer, write_command_answer};
 pub use bad::Bad;
 pub use counted::Counted;
 pub use grammar::{read_line, read_said};
-pub use line_buffer::{LineBuffer, is_passed};
+pub use line_buffer::{LineBuffer, is_passed, kept_is_passed};
 pub use numbers::read_inet;
 pub use output::{Stopped, write_bytes};
 pub use route_words::{MetricWords, RouteWords, Verb, compose};

@@ -135,7 +135,14 @@ impl LineBuffer {
 pub fn is_passed(line: &[u8]) -> bool
     ensures { result ≡ passes (kept line.now) }
 {
-    line.len() <= LONGEST_LINE && matches!(line, [] | [b'#', ..])
+    kept_is_passed(looked_at(line))
+}
+
+/// As `is_passed`, of a line as a `LineBuffer` lends it: nothing of one that is too long.
+pub fn kept_is_passed(line: Option<&[u8]>) -> bool
+    ensures { result ≡ passes (option_copied line.entry) }
+{
+    matches!(line, Some([] | [b'#', ..]))
 }
 
 /// A line as it is looked at: nothing of it where it is too long.

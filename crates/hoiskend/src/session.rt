@@ -177,6 +177,7 @@ impl Session {
         ensures spared { is_short self.new.response ≡ false }
         ensures uncounted { self.new.refused ≡ self.old.refused }
     {
+        // A fact for the proof: the machine's own answer is never 55, on which `spared` rests.
         effects_have_memory();
         match self.world.move_to(id, &mut self.read) {
             Ok(()) => told_read(&mut self.last),

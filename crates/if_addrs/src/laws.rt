@@ -27,7 +27,7 @@ pub fn references_last()
 pub fn numbers_stand_once(interfaces: &Interfaces)
     ensures { NumberedOnce interfaces.now }
 {
-    // What holds of interfaces is known once a field of them is looked at.
+    // A fact for the proof: what holds of interfaces is known once a field of them is looked at.
     let _ = &interfaces.interfaces;
 }
 

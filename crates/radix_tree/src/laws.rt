@@ -16,7 +16,7 @@ use crate::routes::Table;
 pub fn is_table<V>(table: &Table<V>)
     ensures { IsTable table.now.entries }
 {
-    // What holds of a table is known once a field of it is looked at.
+    // A fact for the proof: what holds of a table is known once a field of it is looked at.
     let _ = &table.root;
 }
 
@@ -26,7 +26,7 @@ pub fn one_room_a_route<V>(table: &Table<V>)
     ensures as_many { length table.now.numbers ≡ length table.now.entries }
     ensures once { (n : ℕ) → uses n table.now.numbers ≤ 1 }
 {
-    // What holds of a table is known once a field of it is looked at.
+    // A fact for the proof: what holds of a table is known once a field of it is looked at.
     let _ = &table.root;
 }
 

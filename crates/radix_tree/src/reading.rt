@@ -70,7 +70,7 @@ impl<V> Table<V> {
         ensures counter { visits.new.turn ≡ visits.old.turn }
         ensures bound { visits.new.count ≤ visits.old.count + 2400 }
     {
-        // By this law the routes are in table order and none stands twice, on which `stands` rests.
+        // A fact for the proof: the routes are in table order and none stands twice, on which `stands` rests.
         is_table(self);
         let Some(root) = self.root else {
             return None;

@@ -212,8 +212,8 @@ impl Index {
             → one ≡ other }
         ensures counter { visits.new.turn ≡ visits.old.turn }
     {
-        // by what is known of the places each pair has one at most, on which `once` rests
-        let _known = &self.places;
+        // A fact for the proof: each pair has one place at most, on which `once` rests.
+        let _ = &self.places;
         if rest {
             self.lose(pair_of(key, rank), visits);
         } else {

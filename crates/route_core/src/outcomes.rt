@@ -33,30 +33,39 @@ use sock_addrs::{Errno, Inet};
 pub(crate) struct Done {
     /// The messages before its reply, in order.
     pub(crate) notices: Notices,
-    /// Whether its reply is one of its own, and not the written message.
-    pub(crate) has_own: bool,
+    /// Its reply.
+    pub(crate) reply: Reply,
+}
+
+/// The reply to a request that was done.
+#[derive(Clone, Copy)]
+pub(crate) enum Reply {
+    /// The written message, as one that was done.
+    Echoed,
+    /// A message of its own.
+    Own,
 }
 
 impl Done {
     /// It told these messages, and its reply is the written one.
     fn told(notices: Notices) -> Done
         ensures notices { result.notices ≡ notices }
-        ensures echoed { result.has_own ≡ false }
+        ensures echoed { result.reply ≡ Reply.Echoed }
     {
         Done {
             notices,
-            has_own: false,
+            reply: Reply::Echoed,
         }
     }
 
     /// It told nothing but the reply.
-    fn quiet(has_own: bool) -> Done
+    fn quiet(reply: Reply) -> Done
         ensures notices { result.notices.items ≡ [] }
-        ensures reply { result.has_own ≡ has_own }
+        ensures reply { result.reply ≡ reply }
     {
         Done {
             notices: Notices::new(),
-            has_own,
+            reply,
         }
     }
 }
@@ -76,11 +85,11 @@ pub(crate) fn carry_out(
     ensures counted { Rises (is_no_memory result) memory.old memory.new }
     ensures outcome { (m : List ℕ) → asked.now.header ≡ header_in m → MatchResult result
         (λ d. outcome_of interfaces.now table.old.entries pid m asked.now.request
-        ≡ Ok (outcome_with pid m table.new.entries d.notices.items d.has_own own.new.items))
+        ≡ Ok (outcome_with pid m table.new.entries d.notices.items d.reply own.new.items))
         (λ e. (outcome_of interfaces.now table.old.entries pid m asked.now.request ≡ Err e)
         ⊎ ((makes_room interfaces.now table.old.entries asked.now.request ≡ true) × (e ≡ ENOBUFS))) }
     ensures kept { OnErr result (table.new.entries ≡ table.old.entries) }
-    ensures message { IfOk result (λ d. d.has_own ≡ true → IsMessage own.new.items) }
+    ensures message { IfOk result (λ d. d.reply ≡ Reply.Own → IsMessage own.new.items) }
     ensures of { AreOf interfaces.now table.new.entries }
 {
     match &asked.request {
@@ -124,11 +133,11 @@ fn add(
     ensures counted { Rises (is_no_memory result) memory.old memory.new }
     ensures outcome { (pid : ℕ) (m own : List ℕ) → MatchResult result
         (λ d. adding_outcome (done_reply pid m) (add_of asked.now interfaces.now table.old.entries)
-        ≡ Ok (outcome_with pid m table.new.entries d.notices.items d.has_own own))
+        ≡ Ok (outcome_with pid m table.new.entries d.notices.items d.reply own))
         (λ e. (adding_outcome (done_reply pid m) (add_of asked.now interfaces.now table.old.entries) ≡ Err e)
         ⊎ ((makes_room interfaces.now table.old.entries (asks.Add asked.now) ≡ true) × (e ≡ ENOBUFS))) }
     ensures kept { OnErr result (table.new.entries ≡ table.old.entries) }
-    ensures echoed { IfOk result (λ d. d.has_own ≡ false) }
+    ensures echoed { IfOk result (λ d. d.reply ≡ Reply.Echoed) }
     ensures of { AreOf interfaces.now table.new.entries }
 {
     let mut visits = table.begin();
@@ -154,11 +163,11 @@ fn change(
     ensures counted { Rises (is_no_memory result) memory.old memory.new }
     ensures outcome { (pid : ℕ) (m own : List ℕ) → MatchResult result
         (λ d. adding_outcome (done_reply pid m) (change_of asked.now interfaces.now table.old.entries)
-        ≡ Ok (outcome_with pid m table.new.entries d.notices.items d.has_own own))
+        ≡ Ok (outcome_with pid m table.new.entries d.notices.items d.reply own))
         (λ e. (adding_outcome (done_reply pid m) (change_of asked.now interfaces.now table.old.entries) ≡ Err e)
         ⊎ ((makes_room interfaces.now table.old.entries (asks.Change asked.now) ≡ true) × (e ≡ ENOBUFS))) }
     ensures kept { OnErr result (table.new.entries ≡ table.old.entries) }
-    ensures echoed { IfOk result (λ d. d.has_own ≡ false) }
+    ensures echoed { IfOk result (λ d. d.reply ≡ Reply.Echoed) }
     ensures of { AreOf interfaces.now table.new.entries }
 {
     let mut visits = table.begin();
@@ -183,16 +192,16 @@ fn delete(
     ensures outcome { (pid : ℕ) (m own : List ℕ) → MatchResult result
         (λ d. delete_outcome table.old.entries (done_reply pid m)
         (route_to_delete key netmask flags table.old.entries)
-        ≡ Ok (outcome_with pid m table.new.entries d.notices.items d.has_own own))
+        ≡ Ok (outcome_with pid m table.new.entries d.notices.items d.reply own))
         (λ e. delete_outcome table.old.entries (done_reply pid m)
         (route_to_delete key netmask flags table.old.entries)
         ≡ Err e) }
     ensures kept { OnErr result (table.new.entries ≡ table.old.entries) }
-    ensures echoed { IfOk result (λ d. d.has_own ≡ false) }
+    ensures echoed { IfOk result (λ d. d.reply ≡ Reply.Echoed) }
     ensures of { KeepsAreOf table.old.entries table.new.entries }
 {
     request_delete(table, key, netmask, flags)?;
-    Ok(Done::quiet(false))
+    Ok(Done::quiet(Reply::Echoed))
 }
 
 /// Locks and unlocks metrics of a route. Refused as `request_lock`.
@@ -206,17 +215,17 @@ fn lock(
     ensures outcome { (pid : ℕ) (m own : List ℕ) → MatchResult result
         (λ d. lock_outcome table.old.entries (done_reply pid m)
         (lock_of destination netmask inits locks table.old.entries)
-        ≡ Ok (outcome_with pid m table.new.entries d.notices.items d.has_own own))
+        ≡ Ok (outcome_with pid m table.new.entries d.notices.items d.reply own))
         (λ e. lock_outcome table.old.entries (done_reply pid m)
         (lock_of destination netmask inits locks table.old.entries)
         ≡ Err e) }
     ensures memory { is_no_memory result ≡ false }
     ensures kept { OnErr result (table.new.entries ≡ table.old.entries) }
-    ensures echoed { IfOk result (λ d. d.has_own ≡ false) }
+    ensures echoed { IfOk result (λ d. d.reply ≡ Reply.Echoed) }
     ensures of { KeepsAreOf table.old.entries table.new.entries }
 {
     match request_lock(table, destination, netmask, inits, locks) {
-        Ok(_) => Ok(Done::quiet(false)),
+        Ok(_) => Ok(Done::quiet(Reply::Echoed)),
         Err(errno) => Err(errno),
     }
 }
@@ -235,7 +244,7 @@ fn get(
     ensures outcome { (m : List ℕ) → header.now ≡ header_in m → MatchResult result
         (λ d. get_outcome interfaces.now table.old.entries pid m shows_interface
         (route_to_show destination table.old.entries)
-        ≡ Ok (outcome_with pid m table.new.entries d.notices.items d.has_own own.new.items))
+        ≡ Ok (outcome_with pid m table.new.entries d.notices.items d.reply own.new.items))
         (λ e. get_outcome interfaces.now table.old.entries pid m shows_interface
         (route_to_show destination table.old.entries)
         ≡ Err e) }
@@ -250,7 +259,7 @@ fn get(
     };
     let shown = shown(interfaces, header.index, route.value.ifa, shows_interface);
     put_route_got(header, pid, &shown, &route, own);
-    Ok(Done::quiet(true))
+    Ok(Done::quiet(Reply::Own))
 }
 
 /// What a GET shows of the interface of a route: that interface where it is asked for, and otherwise the written

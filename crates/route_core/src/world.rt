@@ -1,4 +1,4 @@
-ghost use Rattle.std.specs.Prelude.{◌≡◌, ◌≤◌, false, length, is_err, IfOk};
+ghost use Rattle.std.specs.Prelude.{◌≡◌, ◌≤◌, false, length, is_err, IfOk, OnErr};
 ghost use Rattle.memory.specs.Refusing.{Rises};
 ghost use Rattle.route_ops.specs.Standing.{brought};
 ghost use Rattle.route_core.specs.Commands.{is_read};
@@ -59,6 +59,7 @@ impl World {
         ensures empty { IfOk result (λ w. w ≡ empty_world) }
         ensures counted { Rises (is_err result) memory.old memory.new }
     {
+        // `Table::new` answers a `Result`, as callers are promised, but by its contract (`made`) never an error.
         let Ok(table) = Table::new(alloc) else {
             unreachable!()
         };
@@ -266,10 +267,11 @@ impl World {
     }
 
     /// Takes the messages that a socket has heard, as `take` does, but moves them into `queue`, whose own are lost.
-    /// EBADF: it isn't open. It wants no memory.
+    /// EBADF: it isn't open, and `queue` stays as it was. It wants no memory.
     #[tactic(auto, unfolding(crate::specs::Step::effect))]
     pub fn move_to(&mut self, id: Name, queue: &mut Queue) -> Result<(), Errno>
-        ensures { IsStep self.old (Read id) (read_or_refused result queue.new) self.new }
+        ensures step { IsStep self.old (Read id) (read_or_refused result queue.new) self.new }
+        ensures unread { OnErr result (queue.new ≡ queue.old) }
     {
         self.listeners.move_to(id, queue)
     }

@@ -1,5 +1,5 @@
 //! Writes to a routing socket.
-ghost use Rattle.std.specs.Prelude.{◌≡◌, IsSome, Some, Err, true};
+ghost use Rattle.std.specs.Prelude.{◌≡◌, IsSome, Some, Err};
 ghost use Rattle.listeners.specs.Queue.{IsMessage};
 ghost use Rattle.listeners.specs.Sockets.{delivered};
 ghost use Rattle.memory.specs.Refusing.{Rises};
@@ -11,7 +11,7 @@ ghost use Rattle.route_core.specs.Step.{Steps, lacks_memory, refused_write};
 ghost use Rattle.route_core.specs.Tried.{done_or_refused as answer_of};
 ghost use Rattle.route_core.specs.declared.command.Command.TheVariants.{Write};
 
-use crate::outcomes::{Done, carry_out};
+use crate::outcomes::{Done, Reply, carry_out};
 use crate::refusal::Refusal;
 use crate::replies::ReplyBuffer;
 use crate::request::Asked;
@@ -138,13 +138,12 @@ fn reply(
 )
     requires echoed { IsEchoed bytes.now }
     requires header { header.now ≡ header_in bytes.now }
-    requires message { done.now.has_own ≡ true → IsMessage own.now.items }
+    requires message { done.now.reply ≡ Reply.Own → IsMessage own.now.items }
     ensures { listeners.new
-        ≡ delivered (reply_with pid bytes.now done.now.has_own own.now.items) AF_INET (Some id) listeners.old }
+        ≡ delivered (reply_with pid bytes.now done.now.reply own.now.items) AF_INET (Some id) listeners.old }
 {
-    if done.has_own {
-        listeners.deliver(own, AF_INET, Some(id));
-    } else {
-        listeners.deliver(buffer.done(bytes, header, pid), AF_INET, Some(id));
+    match done.reply {
+        Reply::Echoed => listeners.deliver(buffer.done(bytes, header, pid), AF_INET, Some(id)),
+        Reply::Own => listeners.deliver(own, AF_INET, Some(id)),
     }
 }

@@ -97,7 +97,7 @@ impl Blocks {
     pub fn keep_all(&mut self, others: Blocks)
         ensures { self.new ≡ min (self.old + others) 2 }
     {
-        // there are two at most, by its fields
+        // A fact for the proof: there are two at most, by its fields.
         let _ = &self.first;
         let Blocks {
             alloc: _,

@@ -91,6 +91,7 @@ pub(crate) fn run<R: Read, W: Write>(
     ensures computed { memory.new ≡ memory.old → EndsComputed result (R.remaining reader.old.inner)
         (R.remaining reader.new.inner) (W.contents writer.old.inner) (W.contents writer.new.inner) }
 {
+    // Facts for the proof, on which `undisturbed`, `short` and `computed` rest.
     others_leave_the_text();
     each_refusal_is_counted();
     computed_has_memory();

@@ -17,6 +17,7 @@ pub fn tree_is_the_table_s<V>()
     ensures unique { TreesAreUnique }
     ensures kept { TablesKeepThisTree V }
 {
+    // A fact for the proof.
     table_order::<V>();
 }
 
@@ -25,6 +26,7 @@ pub fn tree_is_the_table_s<V>()
 pub fn masks_are_listed<V>()
     ensures { TablesListTheirMasks V }
 {
+    // A fact for the proof.
     table_order::<V>();
 }
 
@@ -32,6 +34,7 @@ pub fn masks_are_listed<V>()
 pub fn search_finds_the_best<V>()
     ensures { SearchFindsTheBest V }
 {
+    // Facts for the proof.
     table_order::<V>();
     members::<V>();
     found_is_member::<V>();

@@ -1,5 +1,4 @@
 ghost use Rattle.std.specs.Prelude.{Bool, ℕ, List, Option, None, ◌||◌, [], ◌∷◌, ◌≡◌, ◌≢◌, ◌<◌, ◌≤◌, false, length, take, is_err, IfOk, OnOk, OnErr, option_copied};
-ghost use Rattle.event_file.specs.Lines.{is_passed as passes};
 ghost use Rattle.route_main.specs.Progress.{Advances, Answers, Breaks, Finishes, StopsWithin, answered_of, fresh, held, standing};
 ghost use Rattle.event_file.specs.Transcript.{command_in};
 ghost use Rattle.route_core.specs.World.{World};
@@ -9,7 +8,8 @@ ghost use Rattle.memory.specs.Refusing.{Rises};
 ghost use Rattle.route_main.specs.Ends.{IsAnswered};
 
 use event_file::{
-    Bad, Counted, LineBuffer, Stopped, TEXT_ROOM, read_said, write_answer, write_command_answer,
+    Bad, Counted, LineBuffer, Stopped, TEXT_ROOM, kept_is_passed, read_said, write_answer,
+    write_command_answer,
 };
 use memory::Memory;
 use program_ends::Outcome;
@@ -213,7 +213,7 @@ impl Answerer {
             (answered_of (option_copied line.entry))) }
         ensures failure { OnErr result (writer.new.failures ≡ 1) }
     {
-        if is_passed(line) {
+        if kept_is_passed(line) {
             return Ok(());
         }
         self.has_bad |= answer_line(
@@ -280,11 +280,4 @@ fn answer_bad<W: Write>(text: &mut [u8], writer: &mut Counted<W>) -> Result<bool
 {
     write_answer(&Err(Bad), text, writer)?;
     Ok(true)
-}
-
-/// Whether a line gives no answer: an empty one, or one that begins with `#` and is not too long.
-fn is_passed(line: Option<&[u8]>) -> bool
-    ensures { result ≡ passes (option_copied line.entry) }
-{
-    matches!(line, Some([] | [b'#', ..]))
 }

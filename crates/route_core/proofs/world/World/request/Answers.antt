@@ -22,7 +22,7 @@ returns-in-Ok-clause-effect c =
     let d = c.in-Ok.done in
     rw (← c.self.view_is)
     (inl (write_done w c.args.id c.args.pid m _
-    (outcome_with c.args.pid m c.carry_out.new.table.entries d.notices.items d.has_own c.carry_out.new.own.items) _
+    (outcome_with c.args.pid m c.carry_out.new.table.entries d.notices.items d.reply c.carry_out.new.own.items) _
     (c.in-Ok.ensures.outcome m c.requires.header)
     (rw (c.tell.ensures, c.deref.ensures.0) at c.reply.ensures)))
 
