@@ -178,7 +178,7 @@ impl Interfaces {
 
     /// Removes an IPv4 address of an interface: no search finds it any more, and a reference to it stays good.
     pub fn remove_addr(&mut self, ifa: IfaRef)
-        requires { IsStanding ifa self.old }
+        requires { IsSome (address_of ifa self.old) }
         ensures removed { self.new ≡ without_addr ifa self.old }
         ensures keeps { KeepsIfas self.old self.new }
         ensures same { SameIfas self.old self.new }
