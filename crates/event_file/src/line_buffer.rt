@@ -139,6 +139,7 @@ pub fn is_passed(line: &[u8]) -> bool
 }
 
 /// As `is_passed`, of a line as a `LineBuffer` lends it: nothing of one that is too long.
+#[inline(always)]
 pub fn kept_is_passed(line: Option<&[u8]>) -> bool
     ensures { result ≡ passes (option_copied line.entry) }
 {
