@@ -77,11 +77,11 @@ fn link_of(gate: Gate) -> (u8, [u8; LINK_BYTES])
     ensures count { result.0 ≡ length (link gate) }
     ensures bytes { result.1 ≡ padded_to LINK_BYTES (link gate) }
 {
-    let mut room = [0; LINK_BYTES];
     match gate {
-        Gate::Inet(_) => (0, room),
+        Gate::Inet(_) => (0, [0; LINK_BYTES]),
         Gate::Link(sockaddr) => {
             let bytes = sockaddr.as_bytes();
+            let mut room = [0; LINK_BYTES];
             room[..bytes.len()].copy_from_slice(bytes);
             (bytes.len() as u8, room)
         }
