@@ -35,7 +35,7 @@ First-none w before old old_told = record {
   rest = [];
   consumes = Consumes-nil before;
   pieces = refl;
-  has_earlier = record { earlier = []; last = []; some = []; parts = refl; one_read = omega arith; done_are = refl };
+  has_earlier = record { earlier = []; last = []; more = []; parts = refl; few = omega arith; done_are = refl };
   appends = Appends-nil old;
   tells = Appends-nil old_told;
 }
@@ -161,7 +161,7 @@ module _ {w : Way} {refused : Bool} {before mid c d e f : Option (List ℕ)} {pi
         consumes = Consumes-trans before mid after r.read bytes r.consumes consumes;
         pieces = whole_pieces-append w [] r.read bytes ∙ ap (λ l. whole ++ whole_pieces w l bytes) (sym r.piece_is)
             ∙ ap (λ l. whole ++ l) t.whole ∙ sym (append_assoc whole t.done left);
-        has_earlier = record { earlier = r.read; last = bytes; some = t.done; parts = refl; one_read = few; done_are = refl };
+        has_earlier = record { earlier = r.read; last = bytes; more = t.done; parts = refl; few = few; done_are = refl };
         appends = subst (Appends c g) (sym (converted-append w whole t.done))
             (Appends-trans c d g (converted_whole w r.read) (converted w t.done) r.appends (subst (Appends d g) out_is appends));
         tells = subst (Appends e h) (sym (told-append w first_place whole t.done ∙ ap (λ p. told_whole w r.read ++ told w p t.done) (sym r.place_is)))
@@ -216,9 +216,9 @@ module _ {w : Way} {refused : Bool} {before mid c d e f : Option (List ℕ)} {pi
     has_earlier = record {
       earlier = r.read;
       last = [];
-      some = [];
+      more = [];
       parts = sym (append-nil r.read);
-      one_read = omega arith;
+      few = omega arith;
       done_are = sym (append-nil (whole_pieces w [] r.read));
     };
     appends = subst (λ n. Appends c n (converted_whole w r.read)) (sym same) r.appends;

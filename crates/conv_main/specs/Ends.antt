@@ -53,17 +53,18 @@ pub record ConvertedFront (w : Way) (before after old new old_told new_told : Op
   pub front : Fronts (converted_whole w read) (told_whole w read) old new old_told new_told
       ⊎ (IsAtEnd after × Fronts (converted_text w read) (told_text w read) old new old_told new_told)
 
--- these are the first pieces of what was read, with all that ended before the last read
+-- these are the first pieces of what was read, with all that ended before its last bytes: at most as many as one read
+-- gives
 pub record HasEarlier (w : Way) (read : List ℕ) (done : List (List ℕ)) : Type 0 where
   pub earlier : List ℕ
   pub last : List ℕ
-  pub some : List (List ℕ)
+  pub more : List (List ℕ)
   pub parts : read ≡ earlier ++ last
-  pub one_read : length last ≤ READ_ROOM
-  pub done_are : done ≡ whole_pieces w [] earlier ++ some
+  pub few : length last ≤ READ_ROOM
+  pub done_are : done ≡ whole_pieces w [] earlier ++ more
 
 -- it wrote the first of the pieces that were read to their ends, each converted, and told of those of them that have no
--- counterpart, and nothing of the others, which ended in the last read
+-- counterpart, and nothing of the others, which end within those last bytes
 pub record ConvertedFirst (w : Way) (before after old new old_told new_told : Option (List ℕ)) : Type 0 where
   pub read : List ℕ
   pub done : List (List ℕ)

@@ -47,7 +47,7 @@ pub fn read_is_within_bounds()
 pub fn scripts_lead_to_worlds()
     ensures { ScriptsLeadToWorlds }
 {
-    // A fact for the proof.
+    // A fact for the proof: what is read is within bounds.
     read_is_within_bounds();
 }
 
@@ -57,7 +57,7 @@ pub fn route_lines_are_read()
     ensures composed { ComposedIsRead }
     ensures lines { RouteLinesAreRead }
 {
-    // Facts for the proof.
+    // Facts for the proof: what is written is read again.
     written_is_read();
     sockaddrs_are_read();
 }
@@ -141,7 +141,7 @@ pub fn transcript_is_computed()
 pub fn computed_has_memory()
     ensures { ComputedHasMemory }
 {
-    // Facts for the proof.
+    // Facts for the proof: the machine's own answers are never 55.
     effects_have_memory();
     left_out_for_room();
 }
@@ -155,7 +155,7 @@ pub fn each_refusal_is_counted()
     ensures unrefused { UnrefusedIsComputed }
     ensures computed { ComputedIsCounted }
 {
-    // Facts for the proof.
+    // Facts for the proof: the machine's own answers are never 55.
     effects_have_memory();
     left_out_for_room();
 }
@@ -174,7 +174,7 @@ pub fn transcript_is_run()
 pub fn others_leave_the_text()
     ensures { OthersLeaveTheText }
 {
-    // A fact for the proof.
+    // A fact for the proof: this law of the worlds.
     others_do_not_disturb();
 }
 

@@ -15,7 +15,7 @@ pub fn calls_are_a_run()
     ensures { CallsAreARun }
 {}
 
-/// The codes that are no errno, by their numbers in include/hoiskend.h.
+/// The codes that are no errno, by number.
 pub fn codes_by_number()
     ensures bad { BAD ≡ 256 }
     ensures kind { KIND ≡ 257 }
@@ -26,7 +26,7 @@ pub fn codes_by_number()
     ensures absent { ABSENT ≡ 262 }
 {}
 
-/// The forms of an address, by their numbers in include/hoiskend.h.
+/// The forms of an address, by number.
 pub fn forms_by_number()
     ensures bytes { BYTES_FORM ≡ 0 }
     ensures inet { INET_FORM ≡ 1 }
@@ -34,8 +34,7 @@ pub fn forms_by_number()
     ensures link { LINK_FORM ≡ 3 }
 {}
 
-/// The number of bits that says that no mask is named, and how many bytes the fields have, by their numbers in
-/// include/hoiskend.h.
+/// The number of bits that says that no mask is named, and how many bytes the fields have.
 pub fn fields_by_number()
     ensures no_mask { NO_MASK ≡ 33 }
     ensures link { LINK_BYTES ≡ 32 }

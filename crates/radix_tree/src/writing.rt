@@ -92,7 +92,8 @@ impl<V: Drop> Table<V> {
         self.put(room, key, rank, value, &mut visits)
     }
 
-    /// Puts a route into this table as `add` does, where the table has none with its key and rank: it doesn't look.
+    /// Puts a route into this table as `add` does, for a caller who knows that the table has none with its key and
+    /// rank: these aren't looked for in the index first.
     pub fn add_absent(&mut self, room: Room<V>, key: Inet, rank: Rank, value: V)
         requires made { room < self.old.next }
         requires free { uses room self.old.numbers ≡ 0 }
@@ -112,8 +113,8 @@ impl<V: Drop> Table<V> {
         }
     }
 
-    /// Puts a route into this table as `add` does, in the turn that has begun. It doesn't ask the index, and goes the
-    /// tree's way at once.
+    /// Puts a route into this table as `add` does, in the turn that has begun. Its pair isn't looked for in the index
+    /// first: the tree tells on the way whether it is there.
     fn put(
         &mut self,
         room: Room<V>,

@@ -11,12 +11,11 @@ pair key rank = key * 64 + rank
 abbrev side : ℕ → ℕ
 side pair = pair / 64 % 4
 
--- multiplied by an odd number near 2^64 over the golden ratio, and the upper half folded into the lower one
+-- the product with an odd number near 2^64 over the golden ratio, its upper half folded into the lower one
 unfoldable pub folded : ℕ → ℕ
 folded number = let product = number * 0x9E37_79B9_7F4A_7C15 % 2 ^ 64 in bit_xor product (product / 2 ^ 32)
 
--- of hosts, whose ranks are 32 and 33, those that differ in these two bits alone have numbers that do, in the lowest
--- bits of either home
+-- hosts, whose ranks are 32 and 33, have homes whose numbers differ in their lowest two bits alone where the keys do
 unfoldable pub spread : ℕ → ℕ
 spread pair =
     if nat_lt (pair % 64) 32 then folded pair

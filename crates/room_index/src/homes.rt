@@ -88,12 +88,12 @@ impl Homes {
 /// The lowest bit of either bucket's number in that of `spread`.
 const SIDES: u64 = 1 << MOST_BITS | 1;
 
-/// The least rank of a host.
+/// From this rank on a route is of one address: 32 by its mask, 33 without one.
 const HOSTS: u64 = 32;
 
 /// A number that tells both buckets and the tag. It depends on all of the pair; but of hosts that differ in their last
-/// two bits alone the buckets' numbers do too: so those that lie side by side have homes that do, and those who come or
-/// go in order read one line of memory for four of them.
+/// two bits alone the buckets' numbers do too: so those that lie side by side have homes that do, and as they come or
+/// go in order four of them read the lines of tags that one would.
 #[inline(always)]
 #[tactic(auto, unfolding(crate::specs::Homes::spread))]
 fn spread(pair: u64) -> u64
@@ -106,8 +106,8 @@ fn spread(pair: u64) -> u64
     folded(pair - side * 64) ^ side * SIDES
 }
 
-/// Multiplied by an odd number near 2^64 over the golden ratio, by which what is near comes far apart (Knuth, The Art
-/// of Computer Programming, 6.4), in the upper half; which is folded into the lower one.
+/// The product with an odd number near 2^64 over the golden ratio, in whose upper half what is near lies far apart
+/// (Knuth, The Art of Computer Programming, 6.4); that half is folded into the lower one.
 #[inline(always)]
 #[tactic(auto, unfolding(crate::specs::Homes::folded))]
 fn folded(number: u64) -> u64

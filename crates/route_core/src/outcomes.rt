@@ -33,16 +33,16 @@ use sock_addrs::{Errno, Inet};
 pub(crate) struct Done {
     /// The messages before its reply, in order.
     pub(crate) notices: Notices,
-    /// Its reply.
+    /// Which message its reply is.
     pub(crate) reply: Reply,
 }
 
-/// The reply to a request that was done.
+/// Which message is the reply to a request that was done.
 #[derive(Clone, Copy)]
 pub(crate) enum Reply {
     /// The written message, as one that was done.
     Echoed,
-    /// A message of its own.
+    /// One that was made for it, as a GET's.
     Own,
 }
 

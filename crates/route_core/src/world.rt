@@ -59,7 +59,7 @@ impl World {
         ensures empty { IfOk result (λ w. w ≡ empty_world) }
         ensures counted { Rises (is_err result) memory.old memory.new }
     {
-        // `Table::new` answers a `Result`, as callers are promised, but by its contract (`made`) never an error.
+        // By its contract (`made`) `Table::new` is always `Ok`; the `Result` is the signature that its callers have.
         let Ok(table) = Table::new(alloc) else {
             unreachable!()
         };

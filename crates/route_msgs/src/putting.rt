@@ -8,8 +8,8 @@ ghost use Rattle.route_msgs.specs.Pasted.{pasted};
 use crate::Sockaddr;
 use sock_addrs::{Gate, Inet, write_mask};
 
-// What puts is inlined: a dump puts the addresses of one message after the other, and where one is known to be there it
-// isn't asked for.
+// These calls are inlined: a dump puts the addresses of one message after the other, and where one is known to be there
+// no test is left.
 
 /// Where the addresses of a message about a route begin, behind its header.
 pub const ADDRESSES_OFFSET: usize = 76;
@@ -66,7 +66,7 @@ pub fn put_mask(bits: Option<u8>, room: &mut [u8], at: usize) -> usize
     }
 }
 
-/// The bit in the addrs field of a gateway or an interface's address, where there is one.
+/// `bit` where there is a gateway or an interface's address, and otherwise 0: what it adds to the addrs field.
 #[inline(always)]
 pub fn gate_bit(gate: &Option<Gate>, bit: u32) -> u32
     ensures { result ≡ bit_of bit (option_map gate_sockaddr gate.now) }
@@ -74,7 +74,7 @@ pub fn gate_bit(gate: &Option<Gate>, bit: u32) -> u32
     if gate.is_some() { bit } else { 0 }
 }
 
-/// The bit in the addrs field of the mask of so many bits, where there is one.
+/// `bit` where there is a mask, which has so many bits, and otherwise 0: what it adds to the addrs field.
 #[inline(always)]
 pub fn mask_bit(bits: Option<u8>, bit: u32) -> u32
     ensures { result ≡ bit_of bit (option_map mask_sockaddr bits) }

@@ -35,7 +35,7 @@ pub fn use_best(table: &mut Table<PackedRoute>, address: Inet) -> Option<Entry<R
     ensures rooms { KeepsRooms table.old table.new }
     ensures of { KeepsAreOf table.old.entries table.new.entries }
 {
-    // A fact for the proof: the table is in order, so that a route that is left as it was leaves it as it was.
+    // A fact for the proof: the table is in order, so that to put a route in again as it stands leaves the table so.
     is_table(table);
     let mut visits = table.begin();
     let mut pair = (address, Rank::host());

@@ -53,7 +53,7 @@ pub(crate) fn place(
     }
 }
 
-/// Puts a route whose key and rank no route has into the table, in a spare room.
+/// Puts a route whose pair isn't in the table into it, in a spare room. It can't be refused.
 pub(crate) fn place_absent(table: &mut Table<PackedRoute>, spare: &mut Spare, route: &Entry<Route>)
     requires fits { FitsSpare table.old spare.old }
     requires rooms { 1 ≤ length spare.old }

@@ -103,7 +103,7 @@ pub fn prepare(
     }
 }
 
-/// Makes so many places, two at most. `Err` where there is no memory for them, so never where none is asked for.
+/// Makes so many places, two at most. `Err` where there is no memory for them, so never for 0 places.
 pub fn prepare_rooms(
     table: &mut Table<PackedRoute>,
     rooms: usize,

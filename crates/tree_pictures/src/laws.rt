@@ -17,7 +17,7 @@ pub fn tree_is_the_table_s<V>()
     ensures unique { TreesAreUnique }
     ensures kept { TablesKeepThisTree V }
 {
-    // A fact for the proof.
+    // A fact for the proof: the order of a table's entries.
     table_order::<V>();
 }
 
@@ -26,7 +26,7 @@ pub fn tree_is_the_table_s<V>()
 pub fn masks_are_listed<V>()
     ensures { TablesListTheirMasks V }
 {
-    // A fact for the proof.
+    // A fact for the proof: the order of a table's entries.
     table_order::<V>();
 }
 
@@ -34,7 +34,7 @@ pub fn masks_are_listed<V>()
 pub fn search_finds_the_best<V>()
     ensures { SearchFindsTheBest V }
 {
-    // Facts for the proof.
+    // Facts for the proof: the order of a table's entries, and which are among them.
     table_order::<V>();
     members::<V>();
     found_is_member::<V>();
