@@ -4,3 +4,4 @@ pub mod Reaching
 pub mod Rewording
 pub mod Running
 pub mod Turning
+pub mod Untold

@@ -20,6 +20,7 @@ use Rattle.lab_main.specs.Progress.{Reached}
 use Rattle.lab_main.specs.Telling.{State, Tells, Told, fresh, if_any}
 use Rattle.lab_main.specs.Texts.{ending}
 use Rattle.lab_main.specs.declared.shows.Shows.{Shows}
+use Rattle.lab_main.proofs.Untold.{Consumed-left, Left, all_left, none_left}
 
 -- ---- lines
 
@@ -97,16 +98,6 @@ Told-one o a b line text tells = (b, text, [], tells, sym (append-nil text), (re
 
 -- ---- how far a run has come
 
-pub Reached-none : (o : Shows) (a c : Option (List ℕ)) (s : State) → s ≡ fresh → Reached 0 o a a c c s []
-Reached-none o a c s is = record {
-  lines = [];
-  text = [];
-  cut = Cut-none a;
-  told = (refl, is);
-  appends = Appends-nil c;
-  many = omega arith;
-}
-
 -- where the writer kept what it had
 pub Reached-kept : {n : ℕ} {o : Shows} {a b c d e : Option (List ℕ)} {s : State} {behind : List ℕ} → Reached n o a b c d s behind → Keeps d e
     → Reached n o a b c e s behind
@@ -166,6 +157,7 @@ finished_lines o a b c d e lines text s all told appends keeps = record {
   text = text;
   last = s;
   first = all.1;
+  untold = all_left a b lines s all;
   told = told;
   appends = Appends-kept c d e text appends keeps;
 }
@@ -218,14 +210,15 @@ Front-between {d = d} {e = e} {f = f} {s = s} {old = old} p read keeps = record 
 }
 
 -- and no more was told
-pub Lines-between : {n : ℕ} {o : Shows} {a b c d e f : Option (List ℕ)} {s : State} {old : List ℕ} → Reached n o a b d e s old → Consumed b c → Keeps e f
+pub Lines-between : {n : ℕ} {o : Shows} {a b c d e f : Option (List ℕ)} {s : State} {old : List ℕ} → Reached n o a b d e s old → Left b c old → Keeps e f
     → ToldLines o a c d f
-Lines-between {d = d} {e = e} {f = f} {s = s} {old = old} p read keeps = record {
+Lines-between {d = d} {e = e} {f = f} {s = s} {old = old} p left keeps = record {
   lines = p.lines;
-  behind = old ++ read.read;
+  behind = old ++ left.read;
   text = p.text;
   last = s;
-  first = inl (Cut-read p.cut read);
+  first = inl (Cut-read p.cut (record { read = left.read; consumes = left.consumes }));
+  untold = left.one;
   told = p.told;
   appends = Appends-kept d e f p.text p.appends keeps;
 }
@@ -247,17 +240,17 @@ Ended-between {a = a} {b = b} {c = c} {d = d} {e = e} {f = f} {s = s} line p beg
 
 -- where the next line can't be had
 pub Ends-between : (outcome : Outcome) {n : ℕ} {o : Shows} {a b c d e : Option (List ℕ)} (f g : Option (List ℕ)) {s : State} {old : List ℕ} (line : List ℕ)
-    → Reached n o a b d e s old → (outcome ≡ ReadFault → Begun b c old line) → Consumed b c → Keeps e f → Keeps f g
+    → Reached n o a b d e s old → (outcome ≡ ReadFault → Begun b c old line) → Left b c old → Keeps e f → Keeps f g
     → (outcome ≡ ReadFault) ⊎ (outcome ≡ WriteFault) ⊎ (outcome ≡ NoMemory) → Ends o outcome a c d g s
-Ends-between ReadFault {e = e} f g line p begun read keeps kept is = Ended-between line p (begun refl) (Keeps-trans e f g keeps kept)
-Ends-between WriteFault {e = e} f g line p begun read keeps kept is = Front-between p read (Keeps-trans e f g keeps kept)
-Ends-between NoMemory {e = e} f g line p begun read keeps kept is = Lines-between p read (Keeps-trans e f g keeps kept)
-Ends-between Done f g line p begun read keeps kept (inl is) = absurd (cc)
-Ends-between Done f g line p begun read keeps kept (inr (inl is)) = absurd (cc)
-Ends-between Done f g line p begun read keeps kept (inr (inr is)) = absurd (cc)
-Ends-between BadLine f g line p begun read keeps kept (inl is) = absurd (cc)
-Ends-between BadLine f g line p begun read keeps kept (inr (inl is)) = absurd (cc)
-Ends-between BadLine f g line p begun read keeps kept (inr (inr is)) = absurd (cc)
+Ends-between ReadFault {e = e} f g line p begun left keeps kept is = Ended-between line p (begun refl) (Keeps-trans e f g keeps kept)
+Ends-between WriteFault {e = e} f g line p begun left keeps kept is = Front-between p (Consumed-left left) (Keeps-trans e f g keeps kept)
+Ends-between NoMemory {e = e} f g line p begun left keeps kept is = Lines-between p left (Keeps-trans e f g keeps kept)
+Ends-between Done f g line p begun left keeps kept (inl is) = absurd (cc)
+Ends-between Done f g line p begun left keeps kept (inr (inl is)) = absurd (cc)
+Ends-between Done f g line p begun left keeps kept (inr (inr is)) = absurd (cc)
+Ends-between BadLine f g line p begun left keeps kept (inl is) = absurd (cc)
+Ends-between BadLine f g line p begun left keeps kept (inr (inl is)) = absurd (cc)
+Ends-between BadLine f g line p begun left keeps kept (inr (inr is)) = absurd (cc)
 
 -- the writer stopped within what is told of a line
 front_within : {W : Type 0} (contents : W → Option (List ℕ)) (w v : Counts W) (o : Shows) (a c d : Option (List ℕ)) (lines : List (List ℕ)) (line behind text said : List ℕ) (s t : State)
@@ -315,12 +308,12 @@ Front-last contents w v e broken.NoMemory line t p (parted, end, some) broke kee
 
 -- where there was no memory for a line it isn't told at all
 pub Lines-line : {W : Type 0} (contents : W → Option (List ℕ)) (w v : Counts W) {n : ℕ} {o : Shows} {a b c d : Option (List ℕ)} (e : Option (List ℕ)) {s : State} {old : List ℕ}
-    (fault : Fault) (line : List ℕ) (t : State) → Reached n o a b d (contents w.inner) s old → Consumed b c
+    (fault : Fault) (line : List ℕ) (t : State) → Reached n o a b d (contents w.inner) s old → Left b c old
     → Broke contents o fault s line t w v → fault ≡ broken.NoMemory → Keeps (contents v.inner) e → ToldLines o a c d e
-Lines-line contents w v e broken.Read line t p read broke is keeps = absurd broke
-Lines-line contents w v e broken.Write line t p read broke is keeps = absurd (cc)
-Lines-line contents w v e broken.NoMemory line t p read broke is keeps =
-    Lines-between p read (subst (λ (x : Counts _). Keeps (contents x.inner) e) broke keeps)
+Lines-line contents w v e broken.Read line t p left broke is keeps = absurd broke
+Lines-line contents w v e broken.Write line t p left broke is keeps = absurd (cc)
+Lines-line contents w v e broken.NoMemory line t p left broke is keeps =
+    Lines-between p left (subst (λ (x : Counts _). Keeps (contents x.inner) e) broke keeps)
 
 -- so the run ends, which no read did
 pub Ends-front : (outcome : Outcome) {o : Shows} {a c d e : Option (List ℕ)} (s : State) → ToldFront o a c d e → (outcome ≡ NoMemory → ToldLines o a c d e) → outcome ≢ ReadFault
@@ -351,6 +344,7 @@ Lines-none o a c = record {
   text = [];
   last = fresh;
   first = inl (Cut-none a);
+  untold = none_left;
   told = (refl, refl);
   appends = Appends-nil c;
 }

@@ -1,6 +1,6 @@
 -- What a run with an outcome did to its reader, which had `before` and has `after` left, and to its writer, which held
 -- `old` and holds `new`.
-use Rattle.std.specs.Prelude.{◌≡◌, ◌≢◌, ◌≤◌, ◌⊎◌, Bool, true, false, List, [], ◌∷◌, ◌++◌, ℕ, Option, length}
+use Rattle.std.specs.Prelude.{◌≡◌, ◌≢◌, ◌≤◌, ◌+◌, ◌⊎◌, Bool, true, false, List, [], ◌∷◌, ◌++◌, ℕ, Option, length}
 use Rattle.std.specs.Io.KnownBytes.{Appends, Consumes, IsAtEnd, Keeps}
 use Rattle.event_file.specs.Lines.{AreLines, has_newline, with_newlines}
 use Rattle.program_ends.specs.declared.outcome.Outcome.{Outcome}
@@ -70,13 +70,23 @@ pub record ToldFront (o : Shows) (before after old new : Option (List ℕ)) : Ty
   pub whole : text ++ ending last.bad ≡ written ++ unwritten
   pub appends : Appends old new written
 
--- exactly these lines were told, to their ends, of those that were read
+-- this is no more than one line, as far as it has come, and behind it a newline and what was read at once with that
+pub record IsOneLine (behind : List ℕ) : Type 0 where
+  pub line : List ℕ
+  pub rest : List ℕ
+  pub parts : behind ≡ line ++ rest
+  pub whole : has_newline line ≡ false
+  pub few : length rest ≤ READ_ROOM + 1
+
+-- exactly these lines were told, to their ends, of those that were read, and one line at most was read that wasn't
+-- told, but for what was read at once with its end
 pub record ToldLines (o : Shows) (before after old new : Option (List ℕ)) : Type 0 where
   pub lines : List (List ℕ)
   pub behind : List ℕ
   pub text : List ℕ
   pub last : State
   pub first : AreFirst before after lines behind
+  pub untold : IsOneLine behind
   pub told : Told o fresh lines text last
   pub appends : Appends old new text
 

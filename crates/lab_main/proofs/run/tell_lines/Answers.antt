@@ -1,9 +1,9 @@
-use Rattle.std.proofs.Common.{◌≢◌, ◌≤◌, ◌∙◌, ◌∷◌, [], ap, length, rules, sym, inl, inr, Err}
+use Rattle.std.proofs.Common.{◌≢◌, ◌≤◌, ◌∙◌, ◌∷◌, [], ap, arith, length, rules, sym, inl, inr, Err}
 use Rattle.std.specs.Io.KnownBytes.{IsAtEnd}
-use Rattle.line_reader.proofs.Parting.{Consumed-of}
 use Rattle.line_reader.specs.Given.{Parted}
 use Rattle.line_reader.specs.declared.reader.TheConstants.{READ_ROOM}
 use Rattle.lab_main.proofs.Reaching.{Ended-turns, Ends-at_end, Ends-between, Ends-front, Ends-last, Ends-over, Front-last, Front-line, Front-now, Lines-line, Reached-kept, Reached-line, Spent-behind, Spent-turns, not_read}
+use Rattle.lab_main.proofs.Untold.{Left-needed, Left-parted}
 use Rattle.lab_main.proofs.run.tell_lines.Goals as goal
 
 pub returns-in-Err-tell_line-clause-ends : goal.returns-in-Err-tell_line-clause-ends
@@ -11,11 +11,12 @@ returns-in-Err-tell_line-clause-ends g c =
     let parted : Parted (g.R.Read.remaining c.loop-turn.reader.inner) (g.R.Read.remaining c.next_line.new.reader.inner) c.loop-turn.lines c.deref.result.now (10 ∷ c.next_line.new.self) =
     search rules in
     let reached = Reached-kept c.loop-turn.invariant.reached c.in-Ok-Line.ensures.keeps in
+    let few : length c.next_line.new.self ≤ READ_ROOM = search rules in
     Ends-front c.stop.result _
     (Front-line g.W.Write.contents c.next_line.new.writer c.tell_line.new.writer (g.W.Write.contents c.stop.new.writer.inner) c.in-Err-tell_line.fault c.deref.result.now c.next_line.new.self
     c.tell_line.new.lab reached parted c.in-Err-tell_line.ensures.fault c.stop.ensures.keeps)
     (λ is. Lines-line g.W.Write.contents c.next_line.new.writer c.tell_line.new.writer (g.W.Write.contents c.stop.new.writer.inner) c.in-Err-tell_line.fault c.deref.result.now
-    c.tell_line.new.lab reached (Consumed-of parted) c.in-Err-tell_line.ensures.fault (c.stop.ensures.no_memory is) c.stop.ensures.keeps)
+    c.tell_line.new.lab reached (Left-parted parted (omega (arith, few))) c.in-Err-tell_line.ensures.fault (c.stop.ensures.no_memory is) c.stop.ensures.keeps)
     (λ is. not_read g.W.Write.contents _ _ _ _ _ _ c.in-Err-tell_line.fault c.in-Err-tell_line.ensures.fault (c.stop.ensures.read_fault is)) c.stop.ensures.read
 
 pub returns-then-is_over-clause-ends : goal.returns-then-is_over-clause-ends
@@ -39,7 +40,7 @@ returns-in-Err-tell_line-2-clause-ends g c =
     (Front-last g.W.Write.contents c.next_line.new.writer c.tell_line-in-Ok-Last.new.writer (g.W.Write.contents stop.new.writer.inner) c.in-Err-tell_line-2.fault line
     c.tell_line-in-Ok-Last.new.lab reached parted c.in-Err-tell_line-2.ensures.fault stop.ensures.keeps)
     (λ is. Lines-line g.W.Write.contents c.next_line.new.writer c.tell_line-in-Ok-Last.new.writer (g.W.Write.contents stop.new.writer.inner) c.in-Err-tell_line-2.fault line
-    c.tell_line-in-Ok-Last.new.lab reached (Consumed-of parted.0) c.in-Err-tell_line-2.ensures.fault (stop.ensures.no_memory is) stop.ensures.keeps)
+    c.tell_line-in-Ok-Last.new.lab reached (Left-parted parted.0 (omega arith)) c.in-Err-tell_line-2.ensures.fault (stop.ensures.no_memory is) stop.ensures.keeps)
     (λ is. not_read g.W.Write.contents _ _ _ _ _ _ c.in-Err-tell_line-2.fault c.in-Err-tell_line-2.ensures.fault (stop.ensures.read_fault is)) stop.ensures.read
 
 pub returns-in-Ok-Last-clause-ends : goal.returns-in-Ok-Last-clause-ends
@@ -62,8 +63,12 @@ returns-in-Ok-End-clause-ends g c =
 
 pub returns-in-Err-clause-ends : goal.returns-in-Err-clause-ends
 returns-in-Err-clause-ends g c =
+    let left = Left-needed (elim c.in-Err.ensures.needed [
+      | inl same ↦ inl (ap (λ r. g.R.Read.remaining r.inner) same)
+      | inr needed ↦ inr needed
+    ]) c.loop-turn.invariant.ahead in
     Ends-between c.stop-in-Err.result (g.W.Write.contents c.next_line.new.writer.inner) (g.W.Write.contents c.stop-in-Err.new.writer.inner) c.next_line.new.line.items
-    c.loop-turn.invariant.reached (λ is. c.in-Err.ensures.begun (ap Err (c.stop-in-Err.ensures.read_fault is))) c.in-Err.ensures.fault c.in-Err.ensures.keeps
+    c.loop-turn.invariant.reached (λ is. c.in-Err.ensures.begun (ap Err (c.stop-in-Err.ensures.read_fault is))) left c.in-Err.ensures.keeps
     c.stop-in-Err.ensures.keeps c.stop-in-Err.ensures.read
 
 pub returns-in-Err-clause-read_fault : goal.returns-in-Err-clause-read_fault
@@ -89,6 +94,7 @@ loop-turn-preserved g c =
     let told = c.in_default.ensures.told in
     record {
       reached = Reached-line c.deref.result.now c.next_line.new.self told.0 reached parted told.1 told.2.appends;
+      ahead = search rules;
       goes_on = sym c.is_over.ensures ∙ c.if-is_over.false;
       reads = search rules;
       writes = search rules;
