@@ -7,14 +7,14 @@ use Rattle.std.proofs.lemmas.List.Sums.{sum_by-set, sum_by-le, sum_by-take-drop,
 use Rattle.std.proofs.lemmas.Option.{none-some, slice_get_cases}
 use Rattle.room_index.proofs.Standing.{stands_in}
 use Rattle.room_index.specs.Places.{standing, used_in}
-use Rattle.room_index.specs.declared.entry.Entry.{Entry}
+use Rattle.room_index.specs.Filed.{Filed}
 
 -- what a place counts
 abbrev counts : ℕ → ℕ
 counts tag = cond (not (tag == 0)) 1 0
 
 -- a place in which nothing stands has the tag 0
-pub tag_of_free : (tags : List ℕ) (entries : List Entry) (n : ℕ) → length entries ≡ length tags → standing tags entries n ≡ None → slice_index tags n ≡ 0
+pub tag_of_free : (tags : List ℕ) (entries : List Filed) (n : ℕ) → length entries ≡ length tags → standing tags entries n ≡ None → slice_index tags n ≡ 0
 tag_of_free tags entries n even free = elim (cases_eq (slice_index tags n) 0) [
   | inl zero ↦ zero
   | inr used ↦ elim (slice_get_cases entries n).1 [

@@ -11,7 +11,7 @@ use Rattle.std.proofs.lemmas.Nat.{pow_pos}
 use Rattle.std.proofs.lemmas.Simd.{length-chunk, get_or-chunk}
 use Rattle.room_index.specs.Homes.{homes, place_of, spread, tag_of}
 use Rattle.room_index.specs.Places.{stands, IsHome, IsTable}
-use Rattle.room_index.specs.declared.entry.Entry.{Entry}
+use Rattle.room_index.specs.Filed.{Filed}
 use Rattle.room_index.specs.declared.homes.Homes.{Homes}
 use Rattle.room_index.specs.declared.places.Places.{Places}
 
@@ -47,33 +47,34 @@ module _ (h : Homes) where
 abbrev pub IsBefore : Homes → ℕ → List ℕ → Type 0
 IsBefore h before tags = before ≡ prefix_len (λ t. not (t == h.tag)) (chunk (8 * h.first) 8 tags ++ chunk (8 * h.second) 8 tags)
 
--- the homes of a pair in a table that has places
-module _ (p : Places) (pair : ℕ) (h : Homes) (is : h ≡ homes p.bits pair) (table : IsTable p) (some : false ≡ (vec_len p.tags == 0)) where
-  long_as : length p.tags.items ≡ 8 * 2 ^ p.bits
-  long_as = table.size.size (omega (arith, eqb-false (vec_len p.tags) 0 (sym some), p.tags.ok))
+module _ {P : Type 0} where
+  -- the homes of a pair in a table that has places
+  module _ (p : Places P) (pair : ℕ) (h : Homes) (is : h ≡ homes p.bits pair) (table : IsTable p) (some : false ≡ (vec_len p.tags == 0)) where
+    long_as : length p.tags.items ≡ 8 * 2 ^ p.bits
+    long_as = table.size.size (omega (arith, eqb-false (vec_len p.tags) 0 (sym some), p.tags.ok))
 
-  first_within : 8 * h.first + 8 ≤ length p.tags.items
-  first_within = omega (arith, ap (λ x. x.first) is, long_as, mod-lt (spread pair) (pow_pos p.bits))
+    first_within : 8 * h.first + 8 ≤ length p.tags.items
+    first_within = omega (arith, ap (λ x. x.first) is, long_as, mod-lt (spread pair) (pow_pos p.bits))
 
-  second_within : 8 * h.second + 8 ≤ length p.tags.items
-  second_within = omega (arith, ap (λ x. x.second) is, long_as, mod-lt (spread pair / 2 ^ 24) (pow_pos p.bits))
+    second_within : 8 * h.second + 8 ≤ length p.tags.items
+    second_within = omega (arith, ap (λ x. x.second) is, long_as, mod-lt (spread pair / 2 ^ 24) (pow_pos p.bits))
 
-  pub place_within : (k : ℕ) → k < 16 → place_of h k < length p.tags.items
-  place_within k within = elim (cases_lt k 8) [
-    | inl low ↦ omega (arith, in_first h k low, first_within, low)
-    | inr high ↦ omega (arith, in_second h k high, second_within, within, high)
-  ]
+    pub place_within : (k : ℕ) → k < 16 → place_of h k < length p.tags.items
+    place_within k within = elim (cases_lt k 8) [
+      | inl low ↦ omega (arith, in_first h k low, first_within, low)
+      | inr high ↦ omega (arith, in_second h k high, second_within, within, high)
+    ]
 
-  -- where its entry stands, its tag does
-  pub tag_is : (n : ℕ) (e : Entry) → stands p n ≡ Some e → e.pair ≡ pair → slice_index p.tags.items n ≡ h.tag
-  tag_is n e at same = table.filed.tags n e at ∙ ap tag_of same ∙ sym (ap (λ x. x.tag) is)
+    -- where its entry stands, its tag does
+    pub tag_is : (n : ℕ) (e : Filed) → stands p n ≡ Some e → e.pair ≡ pair → slice_index p.tags.items n ≡ h.tag
+    tag_is n e at same = table.filed.tags n e at ∙ ap tag_of same ∙ sym (ap (λ x. x.tag) is)
 
-  pub not_before : (before k : ℕ) (e : Entry) → IsBefore h before p.tags.items → k < before → stands p (place_of h k) ≡ Some e → e.pair ≡ pair → ⊥
-  not_before before k e counted early at same = untagged h p.tags.items first_within second_within h.tag k (subst (λ n. k < n) counted early) (tag_is (place_of h k) e at same)
+    pub not_before : (before k : ℕ) (e : Filed) → IsBefore h before p.tags.items → k < before → stands p (place_of h k) ≡ Some e → e.pair ≡ pair → ⊥
+    not_before before k e counted early at same = untagged h p.tags.items first_within second_within h.tag k (subst (λ n. k < n) counted early) (tag_is (place_of h k) e at same)
 
-  -- and its place has a number
-  pub number_of : (n : ℕ) (e : Entry) → stands p n ≡ Some e → e.pair ≡ pair → (k : ℕ) × (k < 16) × (place_of h k ≡ n)
-  number_of n e at same = elim (subst (IsHome p.bits n) same (table.filed.places n e at)) [
-    | inl first ↦ (n % 8, omega arith, in_first h (n % 8) (omega arith) ∙ omega (arith, first, ap (λ x. x.first) is))
-    | inr second ↦ (8 + n % 8, omega arith, in_second h (8 + n % 8) (omega arith) ∙ omega (arith, second, ap (λ x. x.second) is))
-  ]
+    -- and its place has a number
+    pub number_of : (n : ℕ) (e : Filed) → stands p n ≡ Some e → e.pair ≡ pair → (k : ℕ) × (k < 16) × (place_of h k ≡ n)
+    number_of n e at same = elim (subst (IsHome p.bits n) same (table.filed.places n e at)) [
+      | inl first ↦ (n % 8, omega arith, in_first h (n % 8) (omega arith) ∙ omega (arith, first, ap (λ x. x.first) is))
+      | inr second ↦ (8 + n % 8, omega arith, in_second h (8 + n % 8) (omega arith) ∙ omega (arith, second, ap (λ x. x.second) is))
+    ]

@@ -1,8 +1,10 @@
 -- Ranges of keys: what each knows, and which of them a network has.
-use Rattle.std.proofs.Common.{◌≡◌, ℕ, ◌+◌, ◌-◌, ◌*◌, ◌/◌, ◌%◌, ◌^◌, ◌<◌, ◌≤◌, ◌==◌, ◌&&◌, if◌then◌else◌, not, Bool, true, false, List, get_or, length, slice_get, slice_index, slice_set, Some, None, inl, inr, sym, ap, subst, ◌∙◌, refl, arith, true≢false}
+use Rattle.std.proofs.Common.{◌≡◌, ℕ, ◌+◌, ◌-◌, ◌*◌, ◌/◌, ◌%◌, ◌^◌, ◌<◌, ◌≤◌, ◌==◌, Option, None, List, get_or, length, slice_get, slice_index, slice_set, Some, inl, inr, sym, ap, subst, ◌∙◌, refl, arith}
 use Rattle.std.proofs.lemmas.Bool.{cases_eq, cases_lt, eq-eqb, eqb-true}
 use Rattle.std.proofs.lemmas.List.{get_or-set_same, get_or-set_other}
-use Rattle.std.proofs.lemmas.Option.{none-some, same_Some, slice_get-get_or, slice_get_past}
+use Rattle.std.proofs.lemmas.List.Elements.{All-get_or}
+use Rattle.std.specs.List.{All}
+use Rattle.std.proofs.lemmas.Option.{none-some, slice_get_cases, slice_get-get_or, slice_get_past}
 use Rattle.std.proofs.Math.ListN.{length-set}
 use Rattle.std.proofs.Math.Nat.{div-le_self, div-mul-le_self, div-add-mod, mod-lt, mul-div_cancel}
 use Rattle.std.proofs.lemmas.Nat.{pow_pos, pow-add, shr-shr}
@@ -11,58 +13,50 @@ use Rattle.mask_table.specs.Agreeing.{front, masked}
 use Rattle.mask_table.specs.RankSets.{HasRank}
 use Rattle.room_index.specs.Homes.{pair}
 use Rattle.room_index.specs.Places.{IsIn}
-use Rattle.room_index.specs.Ranges.{entry_of, range_of, AreTold, Has, IsTold, TellsMore}
-use Rattle.room_index.specs.declared.entry.Entry.{Entry}
+use Rattle.room_index.specs.Ranges.{entry_of, range_of, AreTold, IsByRange, IsTold, TellsMore}
+use Rattle.room_index.specs.Filed.{Filed}
 use Rattle.room_index.specs.declared.places.Places.{Places}
-use Rattle.room_index.specs.declared.last.Last.{Last}
 use Rattle.room_index.specs.declared.ranges.Ranges.{Ranges}
 
--- what is there in a slot is of the ranges
-pub has_last : (r : Ranges) (n : ℕ) (l : Last) → n < length r.last.items → get_or r.last.items n l ≡ l → l.is_there ≡ true → Has r l.entry
-has_last r n l within at there =
-    (n, ap entry_of (slice_get-get_or r.last.items n l within ∙ ap Some at) ∙ ap (λ b. if b then Some l.entry else None) there)
+-- ---- one slot is written
+module _ (items : List (Option Filed)) (slot : ℕ) (now : Option Filed) where
+  pub set_here : slot < length items → slice_get (slice_set items slot now) slot ≡ Some now
+  set_here within = slice_get-get_or (slice_set items slot now) slot now (subst (λ n. slot < n) (sym (length-set items slot now)) within)
+      ∙ ap Some (get_or-set_same items slot now now within)
 
--- ---- one range is written
-module _ (items : List Last) (range : ℕ) (now : Last) where
-  pub set_here : range < length items → slice_get (slice_set items range now) range ≡ Some now
-  set_here within = slice_get-get_or (slice_set items range now) range now (subst (λ n. range < n) (sym (length-set items range now)) within)
-      ∙ ap Some (get_or-set_same items range now now within)
-
-  pub set_there : (n : ℕ) → (n ≡ range → ⊥) → slice_get (slice_set items range now) n ≡ slice_get items n
+  pub set_there : (n : ℕ) → (n ≡ slot → ⊥) → slice_get (slice_set items slot now) n ≡ slice_get items n
   set_there n other = elim (cases_lt n (length items)) [
-    | inl within ↦ slice_get-get_or (slice_set items range now) n now (subst (λ m. n < m) (sym (length-set items range now)) within)
-        ∙ ap Some (get_or-set_other items range n now now other) ∙ sym (slice_get-get_or items n now within)
-    | inr past ↦ slice_get_past (slice_set items range now) n (subst (λ m. m ≤ n) (sym (length-set items range now)) past) ∙ sym (slice_get_past items n past)
+    | inl within ↦ slice_get-get_or (slice_set items slot now) n now (subst (λ m. n < m) (sym (length-set items slot now)) within)
+        ∙ ap Some (get_or-set_other items slot n now now other) ∙ sym (slice_get-get_or items n now within)
+    | inr past ↦ slice_get_past (slice_set items slot now) n (subst (λ m. m ≤ n) (sym (length-set items slot now)) past) ∙ sym (slice_get_past items n past)
   ]
 
--- an entry that is there once a pair went was there, and is of another pair
-kept_entry : (was now : Last) (of : ℕ) (e : Entry) → now.is_there ≡ (was.is_there && not (was.entry.pair == of)) → now.entry ≡ was.entry
-    → (there : Bool) → was.is_there ≡ there → (same : Bool) → (was.entry.pair == of) ≡ same → entry_of (Some now) ≡ Some e
-    → (entry_of (Some was) ≡ Some e) × (e.pair ≡ of → ⊥)
-kept_entry was now of e there entry false is same at here =
-    absurd (none-some e (sym (ap (λ b. if b then Some now.entry else None) (there ∙ ap (λ b. b && not (was.entry.pair == of)) is)) ∙ here))
-kept_entry was now of e there entry true is true at here =
-    absurd (none-some e (sym (ap (λ b. if b then Some now.entry else None) (there ∙ ap (λ b. b && not (was.entry.pair == of)) is ∙ ap not at)) ∙ here))
-kept_entry was now of e there entry true is false at here =
-    let now_is : now.entry ≡ e = same_Some now.entry e
-    (sym (ap (λ b. if b then Some now.entry else None) (there ∙ ap (λ b. b && not (was.entry.pair == of)) is ∙ ap not at)) ∙ here) in
-    let was_is : was.entry ≡ e = sym entry ∙ now_is in (
-      ap (λ b. if b then Some was.entry else None) is ∙ ap Some was_is,
-      λ same. true≢false (sym (eq-eqb was.entry.pair of (ap (λ x. x.pair) was_is ∙ same)) ∙ at),
-    )
-
--- a range loses its entry of a pair
-module _ (items : List Last) (range of : ℕ) (was now : Last) (within : range < length items) (at : slice_get items range ≡ Some was)
-    (there : now.is_there ≡ (was.is_there && not (was.entry.pair == of))) (entry : now.entry ≡ was.entry) where
-  pub still_there : (n : ℕ) (e : Entry) → entry_of (slice_get (slice_set items range now) n) ≡ Some e
-      → (entry_of (slice_get items n) ≡ Some e) × (n ≡ range → e.pair ≡ of → ⊥)
-  still_there n e has = elim (cases_eq n range) [
+-- a slot loses its entry of a pair
+module _ (items : List (Option Filed)) (slot of : ℕ) (was now : Option Filed) (within : slot < length items) (at : slice_get items slot ≡ Some was)
+    (fewer : (e : Filed) → now ≡ Some e → (was ≡ Some e) × (e.pair ≡ of → ⊥)) where
+  pub still_there : (n : ℕ) (e : Filed) → entry_of (slice_get (slice_set items slot now) n) ≡ Some e
+      → (entry_of (slice_get items n) ≡ Some e) × (n ≡ slot → e.pair ≡ of → ⊥)
+  still_there n e has = elim (cases_eq n slot) [
     | inl same ↦
-        let kept = kept_entry was now of e there entry was.is_there refl (was.entry.pair == of) refl
-        (sym (ap entry_of (ap (slice_get (slice_set items range now)) same ∙ set_here items range now within)) ∙ has) in
+        let kept = fewer e (sym (ap entry_of (ap (slice_get (slice_set items slot now)) same ∙ set_here items slot now within)) ∙ has) in
         (ap entry_of (ap (slice_get items) same ∙ at) ∙ kept.0, λ here. kept.1)
-    | inr other ↦ (sym (ap entry_of (set_there items range now n other)) ∙ has, λ same. absurd (other same))
+    | inr other ↦ (sym (ap entry_of (set_there items slot now n other)) ∙ has, λ same. absurd (other same))
   ]
+
+-- a list of nothing has none
+pub none_in : (items : List (Option Filed)) → All (λ last. last ≡ None) items → (n : ℕ) (e : Filed) → entry_of (slice_get items n) ≡ Some e → ⊥
+none_in items all n e at = elim (slice_get_cases items n).1 [
+  | inl there ↦ none-some e (sym (ap entry_of there.2 ∙ sym there.3 ∙ All-get_or (λ last. last ≡ None) items n there.0 there.1 all) ∙ at)
+  | inr past ↦ none-some e (sym (ap entry_of (slice_get_past items n past.0)) ∙ at)
+]
+
+-- slots of which none has an entry are of any ranges
+pub none_by_range : {P : Type 0} (r : Ranges P) → r.bits ≤ 24 → r.bits + r.finer ≤ 32 → All (λ last. last ≡ None) r.last.items → IsByRange r
+none_by_range r few finer none = record {
+  few = few;
+  finer = finer;
+  own = λ n e at. absurd (none_in r.last.items none n e at);
+}
 
 -- ---- the ranges of a network
 -- the range of a pair has the first bits of its key
@@ -110,53 +104,54 @@ module _ (bits rank address : ℕ) (few : bits ≤ 24) (fits : rank ≤ 33) wher
         (omega (arith, whole_range long), omega (arith, whole_range long, one))
   ]
 
--- ---- what is told
--- of each range that the network of a pair has
-pub told_in : (r : Ranges) (of first to : ℕ) (few : r.bits ≤ 24) → first ≡ range_of r.bits of → to ≡ first + 2 ^ (r.bits - of % 64)
-    → ((n : ℕ) → first ≤ n → n < to → n < length r.ranks.items → HasRank (slice_index r.ranks.items n) (of % 64)) → IsTold r of
-told_in r of first to few from until told fits address within masks =
-    let key : of ≡ pair (of / 64) (of % 64) = omega arith in
-    let begin : first ≡ front r.bits (masked (of % 64) address) = from ∙ ap (range_of r.bits) key ∙ range_is r.bits (of / 64) (of % 64) few (omega arith)
-    ∙ ap (front r.bits) (sym masks) in
-    let reach = in_reach r.bits (of % 64) address few fits in
-    let here : range_of r.bits (pair address 0) ≡ front r.bits address = range_is r.bits address 0 few (omega arith) in
-    elim (cases_lt (range_of r.bits (pair address 0)) (length r.ranks.items)) [
-      | inl low ↦ inr (inr (told (range_of r.bits (pair address 0)) (omega (arith, begin, here, reach.0)) (omega (arith, begin, here, reach.1, until)) low))
-      | inr past ↦ inl past
-    ]
-
--- beside all
-pub told_short : (r : Ranges) (of : ℕ) → (of % 64 ≤ 33 → HasRank r.short (of % 64)) → IsTold r of
-told_short r of told fits address within masks = inr (inl (told fits))
-
--- of more, what was told is told
-pub told_more : (old new : Ranges) (of : ℕ) → TellsMore old new → IsTold old of → IsTold new of
-told_more old new of more told fits address within masks =
-    let same : range_of new.bits (pair address 0) ≡ range_of old.bits (pair address 0) = ap (λ b. range_of b (pair address 0)) more.bits in
-    elim (told fits address within masks) [
-      | inl past ↦ inl (omega (arith, past, same, more.many))
-      | inr here ↦ elim here [
-        | inl short ↦ inr (inl (more.short (of % 64) short))
-        | inr own ↦ inr (inr (subst (λ n. HasRank (slice_index new.ranks.items n) (of % 64)) (sym same) (more.ranks (range_of old.bits (pair address 0)) (of % 64) own)))
+module _ {P : Type 0} where
+  -- ---- what is told
+  -- of each range that the network of a pair has
+  pub told_in : (r : Ranges P) (of first to : ℕ) (few : r.bits ≤ 24) → first ≡ range_of r.bits of → to ≡ first + 2 ^ (r.bits - of % 64)
+      → ((n : ℕ) → first ≤ n → n < to → n < length r.ranks.items → HasRank (slice_index r.ranks.items n) (of % 64)) → IsTold r of
+  told_in r of first to few from until told fits address within masks =
+      let key : of ≡ pair (of / 64) (of % 64) = omega arith in
+      let begin : first ≡ front r.bits (masked (of % 64) address) = from ∙ ap (range_of r.bits) key ∙ range_is r.bits (of / 64) (of % 64) few (omega arith)
+      ∙ ap (front r.bits) (sym masks) in
+      let reach = in_reach r.bits (of % 64) address few fits in
+      let here : range_of r.bits (pair address 0) ≡ front r.bits address = range_is r.bits address 0 few (omega arith) in
+      elim (cases_lt (range_of r.bits (pair address 0)) (length r.ranks.items)) [
+        | inl low ↦ inr (inr (told (range_of r.bits (pair address 0)) (omega (arith, begin, here, reach.0)) (omega (arith, begin, here, reach.1, until)) low))
+        | inr past ↦ inl past
       ]
-    ]
 
-pub more_same : (old new : Ranges) → new.bits ≡ old.bits → new.ranks.items ≡ old.ranks.items → new.short ≡ old.short → TellsMore old new
-more_same old new bits ranks short = record {
-  bits = bits;
-  many = ap length ranks;
-  short = λ rank has. subst (λ s. HasRank s rank) (sym short) has;
-  ranks = λ n rank has. subst (λ rs. HasRank (slice_index rs n) rank) (sym ranks) has;
-}
+  -- beside all
+  pub told_short : (r : Ranges P) (of : ℕ) → (of % 64 ≤ 33 → HasRank r.short (of % 64)) → IsTold r of
+  told_short r of told fits address within masks = inr (inl (told fits))
 
-pub more_then : (one two three : Ranges) → TellsMore one two → TellsMore two three → TellsMore one three
-more_then one two three first second = record {
-  bits = second.bits ∙ first.bits;
-  many = second.many ∙ first.many;
-  short = λ rank has. second.short rank (first.short rank has);
-  ranks = λ n rank has. second.ranks n rank (first.ranks n rank has);
-}
+  -- of more, what was told is told
+  pub told_more : (old new : Ranges P) (of : ℕ) → TellsMore old new → IsTold old of → IsTold new of
+  told_more old new of more told fits address within masks =
+      let same : range_of new.bits (pair address 0) ≡ range_of old.bits (pair address 0) = ap (λ b. range_of b (pair address 0)) more.bits in
+      elim (told fits address within masks) [
+        | inl past ↦ inl (omega (arith, past, same, more.many))
+        | inr here ↦ elim here [
+          | inl short ↦ inr (inl (more.short (of % 64) short))
+          | inr own ↦ inr (inr (subst (λ n. HasRank (slice_index new.ranks.items n) (of % 64)) (sym same) (more.ranks (range_of old.bits (pair address 0)) (of % 64) own)))
+        ]
+      ]
 
--- of the same entries, or of fewer
-pub told_fewer : (r : Ranges) (p q : Places) → AreTold r p → ((e : Entry) → IsIn q e → IsIn p e) → AreTold r q
-told_fewer r p q told fewer e at = told e (fewer e at)
+  pub more_same : (old new : Ranges P) → new.bits ≡ old.bits → new.ranks.items ≡ old.ranks.items → new.short ≡ old.short → TellsMore old new
+  more_same old new bits ranks short = record {
+    bits = bits;
+    many = ap length ranks;
+    short = λ rank has. subst (λ s. HasRank s rank) (sym short) has;
+    ranks = λ n rank has. subst (λ rs. HasRank (slice_index rs n) rank) (sym ranks) has;
+  }
+
+  pub more_then : (one two three : Ranges P) → TellsMore one two → TellsMore two three → TellsMore one three
+  more_then one two three first second = record {
+    bits = second.bits ∙ first.bits;
+    many = second.many ∙ first.many;
+    short = λ rank has. second.short rank (first.short rank has);
+    ranks = λ n rank has. second.ranks n rank (first.ranks n rank has);
+  }
+
+  -- of the same entries, or of fewer
+  pub told_fewer : (r : Ranges P) (p q : Places P) → AreTold r p → ((e : Filed) → IsIn q e → IsIn p e) → AreTold r q
+  told_fewer r p q told fewer e at = told e (fewer e at)

@@ -7,6 +7,10 @@ use Rattle.room_index.specs.declared.homes.Homes.{Homes}
 abbrev pub pair : ℕ → ℕ → ℕ
 pair key rank = key * 64 + rank
 
+-- its key
+abbrev pub key_of : ℕ → ℕ
+key_of pair = pair / 64 % 2 ^ 32
+
 -- the last two bits of its key
 abbrev side : ℕ → ℕ
 side pair = pair / 64 % 4

@@ -1,3 +1,4 @@
+pub mod Filed
 pub mod Homes
 pub mod Looks
 pub mod Names

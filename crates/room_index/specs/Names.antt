@@ -3,7 +3,7 @@ use Rattle.std.specs.Prelude.{◌≡◌, ℕ, ◌<◌, ◌⊎◌, Bool, true, fa
 use Rattle.radix_nodes.specs.declared.id.Id.{Id}
 use Rattle.room_index.specs.Places.{standing, IsHome, IsIn, IsTable}
 use Rattle.room_index.specs.Ranges.{AreTold, Has, IsByRange}
-use Rattle.room_index.specs.declared.entry.Entry.{Entry}
+use Rattle.room_index.specs.Filed.{Filed}
 use Rattle.room_index.specs.declared.index.Vacancy.{Vacancy}
 use Rattle.room_index.specs.declared.places.Places.{Places}
 use Rattle.room_index.specs.declared.ranges.Ranges.{Ranges}
@@ -13,19 +13,23 @@ pub record Held : Type 0 where
   pub whole : Bool
   pub bits : ℕ
   pub tags : List ℕ
-  pub entries : List Entry
+  pub entries : List Filed
 
 -- it has the room of a pair
 pub record Names (h : Held) (pair : ℕ) (room : Id) : Type 0 where
   pub place : ℕ
   pub stands : standing h.tags h.entries place ≡ Some (record { pair = pair; room = room })
 
+-- each room that it has for a pair is known as such
+abbrev pub AreKnown : (Filed → Type 0) → Held → Type 0
+AreKnown known h = (k : ℕ) (room : Id) → Names h k room → known (record { pair = k; room = room })
+
 -- its places are a table, or none where it was given up, and what it has by ranges of keys stands there
-pub record IsIndex (p : Places) (r : Ranges) (given_up : Bool) : Type 0 where
+pub record IsIndex {P : Type 0} (p : Places P) (r : Ranges P) (given_up : Bool) : Type 0 where
   pub table : IsTable p
   pub none : given_up ≡ true → p.tags.items ≡ []
   pub by_range : IsByRange r
-  pub within : (e : Entry) → Has r e → IsIn p e
+  pub within : (e : Filed) → Has r e → IsIn p e
   pub told : AreTold r p
 
 -- a place is kept for the room of a pair

@@ -3,14 +3,15 @@ use Rattle.std.specs.Prelude.{ℕ, ◌+◌, ◌<◌, ◌≤◌, ◌==◌, if◌t
 use Rattle.room_index.specs.Places.{IsHome}
 use Rattle.room_index.specs.declared.places.Places.{Places}
 
--- how many places more a larger table has
-abbrev pub more_places : Places → ℕ
-more_places p = if length p.tags.items == 0 then 32 else length p.tags.items
+module _ {P : Type 0} where
+  -- how many places more a larger table has
+  abbrev pub more_places : Places P → ℕ
+  more_places p = if length p.tags.items == 0 then 32 else length p.tags.items
 
--- there is memory for these
-pub record IsReserved (p : Places) : Type 0 where
-  pub tags : length p.tags.items + more_places p ≤ vec_capacity p.tags
-  pub entries : length p.entries.items + more_places p ≤ vec_capacity p.entries
+  -- there is memory for these
+  pub record IsReserved (p : Places P) : Type 0 where
+    pub tags : length p.tags.items + more_places p ≤ vec_capacity p.tags
+    pub entries : length p.entries.items + more_places p ≤ vec_capacity p.entries
 
 -- while a table becomes larger: before a place all is at home among twice as many buckets, and so is what has moved on
 -- by as many places as there were; behind it all is where it was

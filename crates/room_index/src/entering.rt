@@ -1,24 +1,32 @@
 //! How an entry comes into the table of places.
 ghost use Rattle.std.specs.Prelude.{◌≡◌, ℕ, ◌+◌, ◌*◌, ◌/◌, ◌^◌, ◌<◌, ◌≤◌, ◌⊎◌, [], true, false, None, Some, IfNone, IfSome, IsSome, length};
 ghost use Rattle.room_index.specs.Homes.{first_home, second_home};
-ghost use Rattle.room_index.specs.Places.{stands, Adds, HasSamePlaces, HaveSame, IsFreeFor, IsFull, IsIn, IsTable};
-ghost use Rattle.room_index.specs.declared.entry.Entry.{Entry as Filed};
+ghost use Rattle.room_index.specs.Places.{stands, Adds, AllAre, HasSamePlaces, HaveSame, IsFreeFor, IsFull, IsIn, IsTable};
+ghost use Rattle.room_index.specs.Filed.{Filed};
 
-use crate::entry::Entry;
+use crate::entry::{Entry, Pair};
 use crate::homes::Homes;
 use crate::places::Places;
+use crate::rooms::Rooms;
 use crate::tags::PLACES;
-use radix_nodes::Visits;
+use radix_nodes::{Id, Visits};
 
-impl Places {
+impl<P: Pair> Places<P> {
     /// A place that is free for an entry of a pair, in one of its homes. `None` where there is none: then all are given
     /// up.
     ///
     /// The pair is written there ahead of its room, so that the memory of the place, which hardly ever is at hand,
     /// comes while that of the tree is waited for.
     #[inline(always)]
-    pub(crate) fn place_for(&mut self, pair: u64, visits: &mut Visits) -> Option<usize>
-        requires { IsTable self.old }
+    pub(crate) fn place_for<R: Rooms<P>>(
+        &mut self,
+        pair: u64,
+        rooms: &R,
+        visits: &mut Visits,
+    ) -> Option<usize>
+        requires table { IsTable self.old }
+        requires known { AllAre (R.Knows rooms.now) self.old }
+        requires turn { R.IsTurn rooms.now visits.old.turn }
         ensures table { IsTable self.new }
         ensures same { IsSome result → HaveSame self.old self.new }
         ensures place { IfSome result (λ n. IsFreeFor self.new n pair) }
@@ -31,7 +39,7 @@ impl Places {
             return None;
         }
         let homes = Homes::of(pair, self.bits);
-        let Some(place) = self.vacant(&homes, visits) else {
+        let Some(place) = self.vacant(&homes, rooms, visits) else {
             self.give_up();
             return None;
         };
@@ -41,21 +49,29 @@ impl Places {
 
     /// Puts an entry of a new pair into a place that is free for it.
     #[inline(always)]
-    pub(crate) fn enter(&mut self, place: usize, entry: Entry)
+    pub(crate) fn enter(&mut self, place: usize, pair: u64, room: Id)
         requires table { IsTable self.old }
-        requires absent { (e : Filed) → IsIn self.old e → e.pair ≡ entry.pair → ⊥ }
-        requires place { IsFreeFor self.old place entry.pair }
+        requires absent { (e : Filed) → IsIn self.old e → e.pair ≡ pair → ⊥ }
+        requires place { IsFreeFor self.old place pair }
         ensures table { IsTable self.new }
-        ensures entered { Adds self.old self.new entry }
+        ensures entered { Adds self.old self.new (record { pair = pair; room = room }) }
     {
-        self.put(place, Homes::of(entry.pair, self.bits).tag, entry);
+        let tag = Homes::of(pair, self.bits).tag;
+        self.put(place, tag, Entry::of(pair, room));
     }
 
     /// A free place in one of a pair's homes, in that of which the first free place is further to the front. Where both
     /// are full, another entry makes way, if there is a place in its other home.
     #[inline(always)]
-    fn vacant(&mut self, homes: &Homes, visits: &mut Visits) -> Option<usize>
+    fn vacant<R: Rooms<P>>(
+        &mut self,
+        homes: &Homes,
+        rooms: &R,
+        visits: &mut Visits,
+    ) -> Option<usize>
         requires table { IsTable self.old }
+        requires known { AllAre (R.Knows rooms.now) self.old }
+        requires turn { R.IsTurn rooms.now visits.old.turn }
         requires first { 8 * homes.now.first + 8 ≤ length self.old.tags.items }
         requires second { 8 * homes.now.second + 8 ≤ length self.old.tags.items }
         ensures table { IsTable self.new }
@@ -72,17 +88,24 @@ impl Places {
             (Some(one), Some(other)) if other % PLACES < one % PLACES => Some(other),
             (Some(one), _) => Some(one),
             (None, Some(other)) => Some(other),
-            (None, None) => match self.cleared_in(homes.first, visits) {
+            (None, None) => match self.cleared_in(homes.first, rooms, visits) {
                 Some(place) => Some(place),
-                None => self.cleared_in(homes.second, visits),
+                None => self.cleared_in(homes.second, rooms, visits),
             },
         }
     }
 
     /// A place of a bucket from which an entry has moved to its other home.
     #[inline(never)]
-    fn cleared_in(&mut self, bucket: usize, visits: &mut Visits) -> Option<usize>
+    fn cleared_in<R: Rooms<P>>(
+        &mut self,
+        bucket: usize,
+        rooms: &R,
+        visits: &mut Visits,
+    ) -> Option<usize>
         requires table { IsTable self.old }
+        requires known { AllAre (R.Knows rooms.now) self.old }
+        requires turn { R.IsTurn rooms.now visits.old.turn }
         requires within { 8 * bucket + 8 ≤ length self.old.tags.items }
         ensures table { IsTable self.new }
         ensures same { HaveSame self.old self.new }
@@ -93,7 +116,7 @@ impl Places {
     {
         let begin = PLACES * bucket;
         for place in begin..begin + PLACES {
-            if self.clear(place, visits) {
+            if self.clear(place, rooms, visits) {
                 return Some(place);
             }
         }
@@ -101,8 +124,10 @@ impl Places {
     }
 
     /// Moves the entry of a place to its other home. `false` where there is no place for it.
-    fn clear(&mut self, place: usize, visits: &mut Visits) -> bool
+    fn clear<R: Rooms<P>>(&mut self, place: usize, rooms: &R, visits: &mut Visits) -> bool
         requires table { IsTable self.old }
+        requires known { AllAre (R.Knows rooms.now) self.old }
+        requires turn { R.IsTurn rooms.now visits.old.turn }
         requires within { place < length self.old.tags.items }
         ensures table { IsTable self.new }
         ensures same { HaveSame self.old self.new }
@@ -113,7 +138,8 @@ impl Places {
         let Some(entry) = self.at(place, visits) else {
             return true;
         };
-        let other = Homes::of(entry.pair, self.bits).beside(place / PLACES);
+        let pair = rooms.pair(entry, visits);
+        let other = Homes::of(pair, self.bits).beside(place / PLACES);
         let Some(free) = self.free_in(other, visits) else {
             return false;
         };

@@ -1,6 +1,6 @@
 //! Where a pair of a key and a rank is at home.
 ghost use Rattle.std.specs.Prelude.{◌≡◌, ◌+◌, ◌*◌, ◌≤◌, ◌<◌, ◌%◌, ◌^◌, ◌⊎◌, MatchBool};
-ghost use Rattle.room_index.specs.Homes.{pair, folded, spread, homes, place_of};
+ghost use Rattle.room_index.specs.Homes.{pair, key_of, folded, spread, homes, place_of};
 
 use crate::tags::{BOTH, PLACES};
 use mask_table::Rank;
@@ -17,6 +17,14 @@ pub(crate) fn pair_of(key: Inet, rank: Rank) -> u64
     ensures { result ≡ pair key rank }
 {
     u64::from(key.number()) * 64 + u64::from(rank.number())
+}
+
+/// The key of a pair.
+#[inline(always)]
+pub(crate) fn key_of(pair: u64) -> u32
+    ensures { result ≡ key_of pair }
+{
+    (pair / 64 % (1 << 32)) as u32
 }
 
 /// The rank of a pair.

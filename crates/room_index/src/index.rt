@@ -1,5 +1,5 @@
-//! The index.
-ghost use Rattle.std.specs.Prelude.{◌≡◌, ℕ, ◌+◌, ◌≤◌, true, false, IfSome, MatchOption, is_err, nat_le};
+//! The index of rooms by pairs.
+ghost use Rattle.std.specs.Prelude.{◌≡◌, ℕ, ◌+◌, ◌*◌, ◌≤◌, true, false, IfSome, MatchOption, is_err, nat_le};
 ghost use Rattle.mask_table.specs.Agreeing.{masked};
 ghost use Rattle.mask_table.specs.RankSets.{HasRank};
 ghost use Rattle.memory.specs.Refusing.{Rises};
@@ -7,12 +7,13 @@ ghost use Rattle.radix_nodes.specs.declared.id.Id.{Id as Room};
 ghost use Rattle.room_index.specs.Homes.{pair};
 ghost use Rattle.room_index.specs.Looks.{Reads, near_looks, pair_looks};
 ghost use Rattle.room_index.specs.Places.{used_in};
-ghost use Rattle.room_index.specs.Names.{Enters, IsKeptFor, Keeps, Loses, Names, Strikes};
+ghost use Rattle.room_index.specs.Names.{AreKnown, Enters, IsKeptFor, Keeps, Loses, Names, Strikes};
 
-use crate::entry::Entry;
+use crate::entry::Pair;
 use crate::homes::pair_of;
 use crate::places::Places;
 use crate::ranges::Ranges;
+use crate::rooms::Rooms;
 use mask_table::{Rank, Ranks};
 use memory::Memory;
 use radix_nodes::{Id, Visits};
@@ -29,9 +30,9 @@ const SMALL: usize = 256;
 ///
 /// A contract sees whether it is whole, and which room it has for which pair (`Names`).
 #[derive(Drop)]
-pub struct Index {
-    pub(crate) places: Places,
-    pub(crate) ranges: Ranges,
+pub struct RoomIndex<P: Pair> {
+    pub(crate) places: Places<P>,
+    pub(crate) ranges: Ranges<P>,
     given_up: bool,
 }
 
@@ -41,7 +42,7 @@ pub struct Vacancy {
     pub(crate) place: usize,
 }
 
-impl Model for Index {
+impl<P: Pair> Model for RoomIndex<P> {
     ghost use Rattle.std.specs.Prelude.{◌≡◌, not, true, []};
     ghost use Rattle.room_index.specs.Names.{Held, IsIndex};
 
@@ -57,13 +58,13 @@ impl Model for Index {
     ghost invariant = { λ i. IsIndex i.places i.ranges i.given_up };
 }
 
-impl Index {
+impl<P: Pair> RoomIndex<P> {
     /// Of no route.
-    pub fn new(alloc: Global) -> Index
+    pub fn new(alloc: Global) -> RoomIndex<P>
         ensures none { (k : ℕ) (room : Room) → Names result k room → ⊥ }
         ensures whole { result.whole ≡ true }
     {
-        Index {
+        RoomIndex {
             places: Places::none(alloc),
             ranges: Ranges::none(alloc),
             given_up: false,
@@ -79,13 +80,21 @@ impl Index {
 
     /// The room of the route with this key and rank.
     #[inline(always)]
-    pub fn find(&self, key: Inet, rank: Rank, visits: &mut Visits) -> Option<Id>
+    pub fn find<R: Rooms<P>>(
+        &self,
+        key: Inet,
+        rank: Rank,
+        rooms: &R,
+        visits: &mut Visits,
+    ) -> Option<Id>
+        requires known { AreKnown (R.Knows rooms.now) self.now }
+        requires turn { R.IsTurn rooms.now visits.old.turn }
         ensures found { MatchOption result ((room : Room) → Names self.now (pair key rank) room → ⊥)
             (λ room. Names self.now (pair key rank) room) }
-        ensures visits { Reads visits.old visits.new pair_looks }
+        ensures visits { Reads visits.old visits.new (pair_looks + 16 * R.looks) }
     {
-        let (_place, entry) = self.places.find(pair_of(key, rank), visits)?;
-        Some(entry.room)
+        let (_place, room) = self.places.find(pair_of(key, rank), rooms, visits)?;
+        Some(room)
     }
 
     /// The room of a route whose key begins as this one does, where one is at hand and few others do: mostly of the one
@@ -158,7 +167,15 @@ impl Index {
     /// A place for the room of a route that is to come. Where the index isn't whole there is none, and where there is
     /// none the index is given up.
     #[inline(always)]
-    pub fn vacancy(&mut self, key: Inet, rank: Rank, visits: &mut Visits) -> Option<Vacancy>
+    pub fn vacancy<R: Rooms<P>>(
+        &mut self,
+        key: Inet,
+        rank: Rank,
+        rooms: &R,
+        visits: &mut Visits,
+    ) -> Option<Vacancy>
+        requires known { AreKnown (R.Knows rooms.now) self.old }
+        requires turn { R.IsTurn rooms.now visits.old.turn }
         ensures keeps { Keeps self.old self.new }
         ensures kept_for { MatchOption result (self.new.whole ≡ false) (λ v. IsKeptFor self.new (pair key rank) v) }
         ensures counter { visits.new.turn ≡ visits.old.turn }
@@ -166,10 +183,10 @@ impl Index {
         if self.given_up {
             return None;
         }
-        self.places.grow(visits);
-        self.ranges.follow(&self.places, visits);
+        self.places.grow(rooms, visits);
+        self.ranges.follow(&self.places, rooms, visits);
         let pair = pair_of(key, rank);
-        let Some(place) = self.places.place_for(pair, visits) else {
+        let Some(place) = self.places.place_for(pair, rooms, visits) else {
             self.ranges.clear();
             self.given_up = true;
             return None;
@@ -197,16 +214,22 @@ impl Index {
         let Some(Vacancy { place }) = vacancy else {
             return;
         };
-        let entry = Entry {
-            pair: pair_of(key, rank),
-            room,
-        };
-        self.places.enter(place, entry);
-        self.ranges.put(entry, visits);
+        let pair = pair_of(key, rank);
+        self.places.enter(place, pair, room);
+        self.ranges.put(pair, room, visits);
     }
 
     /// Strikes the room of a route out. Where no route is left, the index is whole again.
-    pub fn strike(&mut self, key: Inet, rank: Rank, rest: bool, visits: &mut Visits)
+    pub fn strike<R: Rooms<P>>(
+        &mut self,
+        key: Inet,
+        rank: Rank,
+        rest: bool,
+        rooms: &R,
+        visits: &mut Visits,
+    )
+        requires known { AreKnown (R.Knows rooms.now) self.old }
+        requires turn { R.IsTurn rooms.now visits.old.turn }
         ensures struck { Strikes self.old self.new (pair key rank) rest }
         ensures once { (one other : Room) → Names self.old (pair key rank) one → Names self.old (pair key rank) other
             → one ≡ other }
@@ -215,25 +238,27 @@ impl Index {
         // A fact for the proof: each pair has one place at most, on which `once` rests.
         let _ = &self.places;
         if rest {
-            self.lose(pair_of(key, rank), visits);
+            self.lose(pair_of(key, rank), rooms, visits);
         } else {
             self.begin_anew();
         }
     }
 
     /// Loses the room of a pair.
-    fn lose(&mut self, pair: u64, visits: &mut Visits)
+    fn lose<R: Rooms<P>>(&mut self, pair: u64, rooms: &R, visits: &mut Visits)
+        requires known { AreKnown (R.Knows rooms.now) self.old }
+        requires turn { R.IsTurn rooms.now visits.old.turn }
         ensures lost { Loses self.old self.new pair }
         ensures counter { visits.new.turn ≡ visits.old.turn }
     {
         self.ranges.lose(pair, visits);
-        self.places.take(pair, visits);
-        if !self.places.shrink(visits) {
+        self.places.take(pair, rooms, visits);
+        if !self.places.shrink(rooms, visits) {
             self.ranges.clear();
             self.given_up = true;
             return;
         }
-        self.ranges.follow(&self.places, visits);
+        self.ranges.follow(&self.places, rooms, visits);
     }
 
     /// Has no room of any pair, and no memory, and is whole.

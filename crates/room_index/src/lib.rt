@@ -10,10 +10,15 @@ mod index;
 mod last;
 mod places;
 mod ranges;
+mod rooms;
 mod sizes;
 mod tags;
+mod told;
 
-pub use index::{Index, Vacancy};
+pub use entry::{Entry, Pair};
+pub use index::{RoomIndex, Vacancy};
+pub use rooms::Rooms;
+pub use told::Index;
 
 #[cfg(test)]
 mod tests;

@@ -1,19 +1,21 @@
 //! The table of places. What stands there is read by the calls of this file alone, each of which counts its looks.
 ghost use Rattle.std.specs.Prelude.{◌≡◌, ℕ, ◌+◌, ◌*◌, ◌/◌, ◌<◌, ◌≤◌, ◌==◌, if◌then◌else◌, [], length, slice_get, slice_index, slice_set, vec_capacity};
-ghost use Rattle.std.specs.Prelude.{IfSome, IfNone, MatchBool, is_err, nat_le, OnOk, Some, None, ◌&&◌, ◌-◌};
+ghost use Rattle.std.specs.Prelude.{IfSome, IfNone, MatchBool, is_err, nat_le, OnOk, Some, None, option_map, ◌&&◌, ◌-◌};
 ghost use Rattle.memory.specs.Refusing.{Rises};
 ghost use Rattle.room_index.specs.Homes.{tag_of};
 ghost use Rattle.room_index.specs.Looks.{Reads, pair_looks};
-ghost use Rattle.room_index.specs.Places.{stands, Changes, HasPlaces, HasSamePlaces, IsCounted, IsIn, IsTable, Loses, Moves, StandAsBefore};
+ghost use Rattle.room_index.specs.Places.{stands, AllAre, Changes, HasPlaces, HasSamePlaces, IsCounted, IsIn, IsTable, Loses, Moves, StandAsBefore};
 ghost use Rattle.room_index.specs.Sizes.{IsReserved, more_places};
-ghost use Rattle.room_index.specs.declared.entry.Entry.{Entry as Filed};
+ghost use Rattle.room_index.specs.Filed.{Filed};
 
-use crate::entry::Entry;
+use crate::entry::{Entry, Pair};
 use crate::homes::{Homes, MOST_BITS};
+use crate::rooms::Rooms;
 use crate::tags::{BOTH, PLACES, places_before, used_before};
 use memory::{Memory, give_back};
-use radix_nodes::Visits;
+use radix_nodes::{Id, Visits};
 use std::alloc::{AllocError, Global};
+use std::mem;
 
 /// How many places there are at first, those of four buckets.
 pub(crate) const FEWEST: usize = 32;
@@ -28,17 +30,17 @@ const TAGS_BESIDE: usize = 24;
 /// Places for entries, eight to each of 2^`bits` buckets, or none yet. Beside each entry, in a list of its own, stands
 /// its tag, or 0 where the place is free: so the tags of a bucket are read at once.
 #[derive(Drop)]
-pub(crate) struct Places {
+pub(crate) struct Places<P: Pair> {
     tags: Vec<u16>,
-    entries: Vec<Entry>,
+    entries: Vec<Entry<P>>,
     pub(crate) bits: u32,
     /// In how many of them an entry stands.
     used: usize,
 }
 
-impl Places {
+impl<P: Pair> Places<P> {
     /// No place.
-    pub(crate) fn none(alloc: Global) -> Places
+    pub(crate) fn none(alloc: Global) -> Places<P>
         ensures table { IsTable result }
         ensures none { (n : ℕ) → stands result n ≡ None }
     {
@@ -74,14 +76,21 @@ impl Places {
 
     // ---- what is read
 
-    /// The place of a pair, and its entry. It reads the tags of both its homes, and looks at each entry that has the
+    /// The place of a pair, and its room. It reads the tags of both its homes, and looks at each entry that has the
     /// pair's.
     #[inline(always)]
-    pub(crate) fn find(&self, pair: u64, visits: &mut Visits) -> Option<(usize, Entry)>
-        requires { IsTable self.now }
-        ensures some { IfSome result (λ f. (stands self.now f.0 ≡ Some f.1) × (f.1.pair ≡ pair)) }
+    pub(crate) fn find<R: Rooms<P>>(
+        &self,
+        pair: u64,
+        rooms: &R,
+        visits: &mut Visits,
+    ) -> Option<(usize, Id)>
+        requires table { IsTable self.now }
+        requires known { AllAre (R.Knows rooms.now) self.now }
+        requires turn { R.IsTurn rooms.now visits.old.turn }
+        ensures some { IfSome result (λ f. stands self.now f.0 ≡ Some (record { pair = pair; room = f.1 })) }
         ensures none { IfNone result ((n : ℕ) (e : Filed) → stands self.now n ≡ Some e → e.pair ≡ pair → ⊥) }
-        ensures visits { Reads visits.old visits.new pair_looks }
+        ensures visits { Reads visits.old visits.new (pair_looks + 16 * R.looks) }
         ensures counted { 0 < length self.now.tags.items → visits.old.count + BOTH ≤ visits.new.count }
     {
         if self.tags.is_empty() {
@@ -92,9 +101,10 @@ impl Places {
         let second = PLACES * homes.second;
         for number in places_before(&self.tags, first, second, homes.tag, visits)..BOTH {
             let place = homes.place(number);
-            match self.tagged(place, homes.tag, visits) {
-                Some(entry) if entry.pair == pair => return Some((place, entry)),
-                _ => {}
+            if let Some(entry) = self.tagged(place, homes.tag, visits) {
+                if rooms.pair(entry, visits) == pair {
+                    return Some((place, entry.room()));
+                }
             }
         }
         None
@@ -102,16 +112,16 @@ impl Places {
 
     /// What stands in a place under this tag.
     #[inline(always)]
-    fn tagged(&self, place: usize, tag: u16, visits: &mut Visits) -> Option<Entry>
+    fn tagged(&self, place: usize, tag: u16, visits: &mut Visits) -> Option<&Entry<P>>
         requires tags { place < length self.now.tags.items }
         requires entries { length self.now.entries.items ≡ length self.now.tags.items }
-        ensures entry { result
+        ensures entry { option_map (λ e. e.now) result
             ≡ (if slice_index self.now.tags.items place == tag then slice_get self.now.entries.items place else None) }
         ensures look { visits.new ≡ record visits.old { count = visits.old.count + 1 } }
     {
         visits.tick(); // the look under a tag
         if self.tags[place] == tag {
-            Some(self.entries[place])
+            Some(&self.entries[place])
         } else {
             None
         }
@@ -119,17 +129,18 @@ impl Places {
 
     /// What stands in a place.
     #[inline(always)]
-    pub(crate) fn at(&self, place: usize, visits: &mut Visits) -> Option<Entry>
+    pub(crate) fn at(&self, place: usize, visits: &mut Visits) -> Option<&Entry<P>>
         requires tags { place < length self.now.tags.items }
         requires entries { length self.now.entries.items ≡ length self.now.tags.items }
-        ensures entry { result ≡ stands self.now place }
+        ensures some { IfSome result (λ e. stands self.now place ≡ Some e.now) }
+        ensures none { IfNone result (stands self.now place ≡ None) }
         ensures look { visits.new ≡ record visits.old { count = visits.old.count + 1 } }
     {
         visits.tick(); // the look at a place
         if self.tags[place] == 0 {
             None
         } else {
-            Some(self.entries[place])
+            Some(&self.entries[place])
         }
     }
 
@@ -166,7 +177,7 @@ impl Places {
 
     /// Puts an entry into a free place.
     #[inline(always)]
-    pub(crate) fn put(&mut self, place: usize, tag: u16, entry: Entry)
+    pub(crate) fn put(&mut self, place: usize, tag: u16, entry: Entry<P>)
         requires tags { place < length self.old.tags.items }
         requires entries { length self.old.entries.items ≡ length self.old.tags.items }
         requires tag { tag ≡ tag_of entry.pair }
@@ -181,7 +192,7 @@ impl Places {
 
     /// Writes an entry and its tag into a place.
     #[inline(always)]
-    fn write(&mut self, place: usize, tag: u16, entry: Entry)
+    fn write(&mut self, place: usize, tag: u16, entry: Entry<P>)
         requires tags { place < length self.old.tags.items }
         requires entries { length self.old.entries.items ≡ length self.old.tags.items }
         requires tag { tag ≡ tag_of entry.pair }
@@ -193,27 +204,32 @@ impl Places {
         self.entries[place] = entry;
     }
 
-    /// Frees a place in which an entry stands.
-    fn free(&mut self, place: usize)
+    /// Frees a place in which an entry stands, and gives that one.
+    fn free(&mut self, place: usize) -> Entry<P>
         requires within { place < length self.old.tags.items }
+        requires even { length self.old.entries.items ≡ length self.old.tags.items }
         requires stood { stands self.old place ≡ None → ⊥ }
         requires used { IsCounted self.old }
         ensures freed { Changes self.old self.new place None }
+        ensures was { stands self.old place ≡ Some result }
         ensures used { IsCounted self.new }
     {
         self.tags[place] = 0;
         self.used -= 1;
+        mem::replace(&mut self.entries[place], Entry::ahead(0))
     }
 
     /// Takes out the entry of a pair, where there is one.
-    pub(crate) fn take(&mut self, pair: u64, visits: &mut Visits)
-        requires { IsTable self.old }
+    pub(crate) fn take<R: Rooms<P>>(&mut self, pair: u64, rooms: &R, visits: &mut Visits)
+        requires table { IsTable self.old }
+        requires known { AllAre (R.Knows rooms.now) self.old }
+        requires turn { R.IsTurn rooms.now visits.old.turn }
         ensures table { IsTable self.new }
         ensures loses { Loses self.old self.new pair }
         ensures places { HasSamePlaces self.old self.new }
-        ensures visits { Reads visits.old visits.new pair_looks }
+        ensures visits { Reads visits.old visits.new (pair_looks + 16 * R.looks) }
     {
-        if let Some((place, _entry)) = self.find(pair, visits) {
+        if let Some((place, _room)) = self.find(pair, rooms, visits) {
             self.free(place);
         }
     }
@@ -231,9 +247,8 @@ impl Places {
         ensures look { visits.new ≡ record visits.old { count = visits.old.count + 1 } }
     {
         visits.tick(); // the look at what moves
-        let entry = self.entries[from];
         let tag = self.tags[from];
-        self.free(from);
+        let entry = self.free(from);
         self.put(to, tag, entry);
     }
 
@@ -291,7 +306,7 @@ impl Places {
         ensures used { IsCounted self.new }
     {
         self.tags.resize(size, 0).unwrap();
-        self.entries.resize(size, Entry::ahead(0)).unwrap();
+        self.entries.resize_with(size, || Entry::ahead(0)).unwrap();
     }
 
     /// Makes the lists of places so short, of which none is used behind, and gives the memory back.

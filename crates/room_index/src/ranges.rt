@@ -1,16 +1,18 @@
 //! Which ranks the pairs of each range of keys have, and of each slot the last pair that came into it.
-ghost use Rattle.std.specs.Prelude.{◌≡◌, ℕ, ◌+◌, ◌/◌, ◌<◌, ◌≤◌, ◌==◌, ◌⊎◌, is_err, length, slice_index, vec_capacity, IfSome, OnOk, Some};
+ghost use Rattle.std.specs.Prelude.{◌≡◌, ℕ, ◌+◌, ◌/◌, ◌<◌, ◌≤◌, ◌==◌, ◌⊎◌, is_err, length, slice_index, vec_capacity, IfSome, OnOk, Some, None, []};
+ghost use Rattle.std.specs.List.{All};
 ghost use Rattle.mask_table.specs.RankSets.{HasRank};
 ghost use Rattle.memory.specs.Refusing.{Rises};
 ghost use Rattle.room_index.specs.Looks.{Reads, near_looks};
-ghost use Rattle.room_index.specs.Places.{IsIn, IsTable};
+ghost use Rattle.room_index.specs.Places.{AllAre, IsIn, IsTable};
 ghost use Rattle.room_index.specs.Ranges.{last_in, more_ranges, range_of, slot_of, AreTold, Has, HasNone, HasSameLast, IsByRange, IsTold, KeepsOthers, TellsMore, TellsRank};
-ghost use Rattle.room_index.specs.declared.entry.Entry.{Entry as Filed};
+ghost use Rattle.room_index.specs.Filed.{Filed};
 
-use crate::entry::Entry;
-use crate::homes::{MOST_BITS, PAIR_BITS, low_bits, pair_of, rank_of};
-use crate::last::{Last, finer_by};
+use crate::entry::Pair;
+use crate::homes::{MOST_BITS, PAIR_BITS, key_of, low_bits, pair_of, rank_of};
+use crate::last::{BESIDE, Last, finer_by};
 use crate::places::Places;
+use crate::rooms::Rooms;
 use crate::tags::PLACES;
 use mask_table::{Rank, Ranks};
 use memory::{Memory, give_back};
@@ -26,13 +28,6 @@ const LAST_BESIDE: usize = 2;
 
 const RANKS_BESIDE: usize = 6;
 
-/// Of more pairs than so many, the way from one to the next is as long as that from the root.
-const CROWDED: u32 = 64;
-
-/// So many slots beside one another are looked at for a pair that is near: those of keys that differ in three bits at
-/// most, the last of those by which slots are parted. They lie in a few lines of memory.
-const BESIDE: usize = 8;
-
 /// So many bits has a key.
 const KEY_BITS: u32 = 32;
 
@@ -46,8 +41,8 @@ const WIDEST: u32 = 6;
 /// that is to come finds one whose key begins as its own does. Where all keys are of a few ranges the pairs of one are
 /// too many to be near each other: so those of a slot share `finer` bits more, of which the last `bits` number it.
 #[derive(Drop)]
-pub(crate) struct Ranges {
-    last: Vec<Last>,
+pub(crate) struct Ranges<P: Pair> {
+    last: Vec<Last<P>>,
     ranks: Vec<Ranks>,
     /// The ranks of networks that have many ranges.
     short: Ranks,
@@ -55,9 +50,9 @@ pub(crate) struct Ranges {
     finer: u32,
 }
 
-impl Ranges {
+impl<P: Pair> Ranges<P> {
     /// No range.
-    pub(crate) fn none(alloc: Global) -> Ranges
+    pub(crate) fn none(alloc: Global) -> Ranges<P>
         ensures ranges { IsByRange result }
         ensures none { HasNone result }
     {
@@ -121,8 +116,9 @@ impl Ranges {
         ensures counted { visits.old.count + 1 ≤ visits.new.count }
     {
         let slot = self.slot(pair);
+        let key = key_of(pair);
         for beside in 0..BESIDE {
-            let near = self.near_in(slot ^ beside, pair, visits);
+            let near = self.near_in(slot ^ beside, key, visits);
             if near.is_some() {
                 return near;
             }
@@ -130,17 +126,10 @@ impl Ranges {
         None
     }
 
-    /// Whether two pairs have keys that differ in the last bits alone of those by which slots are parted.
+    /// The room of the pair that such a slot has, where its key and this one differ in the last bits alone of those by
+    /// which slots are parted. It is one look.
     #[inline(always)]
-    fn is_beside(&self, one: u64, other: u64) -> bool
-        requires { self.now.bits + self.now.finer ≤ KEY_BITS }
-    {
-        (one ^ other) >> self.rest() < BESIDE as u64
-    }
-
-    /// The room of the pair that such a slot has. It is one look.
-    #[inline(always)]
-    fn near_in(&self, slot: usize, pair: u64, visits: &mut Visits) -> Option<Id>
+    fn near_in(&self, slot: usize, key: u32, visits: &mut Visits) -> Option<Id>
         requires { self.now.bits + self.now.finer ≤ KEY_BITS }
         ensures near { IfSome result (λ room. (e : Filed) × Has self.now e × (e.room ≡ room)) }
         ensures look { visits.new ≡ record visits.old { count = visits.old.count + 1 } }
@@ -149,12 +138,8 @@ impl Ranges {
         if slot >= self.last.len() {
             return None;
         }
-        let last = self.last[slot];
-        if last.is_there && last.many <= CROWDED && self.is_beside(last.entry.pair, pair) {
-            Some(last.entry.room)
-        } else {
-            None
-        }
+        let left = KEY_BITS - (self.bits + self.finer);
+        self.last[slot].room_beside(key, left)
     }
 
     /// The ranks that pairs have whose networks have this address, and perhaps others. It is one look.
@@ -174,31 +159,31 @@ impl Ranges {
 
     /// An entry came. It is a look at its slot, and one at each range in which its rank is told.
     #[inline(always)]
-    pub(crate) fn put(&mut self, entry: Entry, visits: &mut Visits)
+    pub(crate) fn put(&mut self, pair: u64, room: Id, visits: &mut Visits)
         requires { IsByRange self.old }
         ensures ranges { IsByRange self.new }
-        ensures put { slot_of self.old entry.pair < length self.old.last.items
-            → last_in self.new (slot_of self.old entry.pair) ≡ Some entry }
-        ensures others { KeepsOthers self.old self.new entry.pair }
-        ensures only { (e : Filed) → Has self.new e → (e ≡ entry) ⊎ Has self.old e }
-        ensures told { IsTold self.new entry.pair }
+        ensures put { slot_of self.old pair < length self.old.last.items
+            → last_in self.new (slot_of self.old pair) ≡ Some (record { pair = pair; room = room }) }
+        ensures others { KeepsOthers self.old self.new pair }
+        ensures only { (e : Filed) → Has self.new e → (e ≡ record { pair = pair; room = room }) ⊎ Has self.old e }
+        ensures told { IsTold self.new pair }
         ensures more { TellsMore self.old self.new }
         ensures many { length self.new.last.items ≡ length self.old.last.items }
         ensures counter { visits.new.turn ≡ visits.old.turn }
     {
-        self.put_last(entry, visits);
-        self.tell(entry.pair, visits);
+        self.put_last(pair, room, visits);
+        self.tell(pair, visits);
     }
 
     /// Puts an entry in the place of that which its slot has. It is one look.
     #[inline(always)]
-    fn put_last(&mut self, entry: Entry, visits: &mut Visits)
+    fn put_last(&mut self, pair: u64, room: Id, visits: &mut Visits)
         requires { IsByRange self.old }
         ensures ranges { IsByRange self.new }
-        ensures put { slot_of self.old entry.pair < length self.old.last.items
-            → last_in self.new (slot_of self.old entry.pair) ≡ Some entry }
-        ensures others { KeepsOthers self.old self.new entry.pair }
-        ensures only { (e : Filed) → Has self.new e → (e ≡ entry) ⊎ Has self.old e }
+        ensures put { slot_of self.old pair < length self.old.last.items
+            → last_in self.new (slot_of self.old pair) ≡ Some (record { pair = pair; room = room }) }
+        ensures others { KeepsOthers self.old self.new pair }
+        ensures only { (e : Filed) → Has self.new e → (e ≡ record { pair = pair; room = room }) ⊎ Has self.old e }
         ensures many { length self.new.last.items ≡ length self.old.last.items }
         ensures ranks { self.new.ranks.items ≡ self.old.ranks.items }
         ensures short { self.new.short ≡ self.old.short }
@@ -207,14 +192,9 @@ impl Ranges {
         ensures look { visits.new ≡ record visits.old { count = visits.old.count + 1 } }
     {
         visits.tick(); // the look at what its slot has
-        let slot = self.slot(entry.pair);
+        let slot = self.slot(pair);
         if slot < self.last.len() {
-            let many = self.last[slot].many.saturating_add(1);
-            self.last[slot] = Last {
-                entry,
-                is_there: true,
-                many,
-            };
+            self.last[slot].put(pair, room);
         }
     }
 
@@ -282,7 +262,7 @@ impl Ranges {
         visits.tick(); // the look at what goes
         let slot = self.slot(pair);
         if slot < self.last.len() {
-            self.last[slot] = self.last[slot].without(pair);
+            self.last[slot].lose(pair);
         }
     }
 
@@ -338,8 +318,15 @@ impl Ranges {
     /// Has as many ranges as the table of places has buckets, where there is memory for them, and knows of each what
     /// the table has.
     #[inline(always)]
-    pub(crate) fn follow(&mut self, places: &Places, visits: &mut Visits)
+    pub(crate) fn follow<R: Rooms<P>>(
+        &mut self,
+        places: &Places<P>,
+        rooms: &R,
+        visits: &mut Visits,
+    )
         requires table { IsTable places.now }
+        requires known { AllAre (R.Knows rooms.now) places.now }
+        requires turn { R.IsTurn rooms.now visits.old.turn }
         requires ranges { IsByRange self.old }
         requires within { (e : Filed) → Has self.old e → IsIn places.now e }
         requires told { AreTold self.old places.now }
@@ -356,15 +343,23 @@ impl Ranges {
             && many <= self.last.capacity()
             && many <= self.ranks.capacity()
         {
-            self.renew(many, places, visits);
+            self.renew(many, places, rooms, visits);
         }
     }
 
     /// Has so many ranges, for which there is memory, and of each what the table has, of entries the last by their
     /// places.
     #[inline(never)]
-    fn renew(&mut self, many: usize, places: &Places, visits: &mut Visits)
+    fn renew<R: Rooms<P>>(
+        &mut self,
+        many: usize,
+        places: &Places<P>,
+        rooms: &R,
+        visits: &mut Visits,
+    )
         requires table { IsTable places.now }
+        requires known { AllAre (R.Knows rooms.now) places.now }
+        requires turn { R.IsTurn rooms.now visits.old.turn }
         requires last { many ≤ vec_capacity self.old.last }
         requires ranks { many ≤ vec_capacity self.old.ranks }
         requires finer { self.old.finer ≤ KEY_BITS }
@@ -378,7 +373,8 @@ impl Ranges {
         self.begin(many, places.bits, finer.min(KEY_BITS - places.bits));
         for place in 0..places.many() {
             if let Some(entry) = places.at(place, visits) {
-                self.put(entry, visits);
+                let pair = rooms.pair(entry, visits);
+                self.put(pair, entry.room(), visits);
             }
         }
     }
@@ -390,7 +386,7 @@ impl Ranges {
         let mut used = 0;
         for slot in 0..self.last.len() {
             visits.tick(); // the look whether a slot is used
-            if self.last[slot].is_there {
+            if self.last[slot].is_there() {
                 used += 1;
             }
         }
@@ -409,7 +405,7 @@ impl Ranges {
     {
         let fewer = many < self.last.len();
         self.last.clear();
-        self.last.resize(many, Last::none()).unwrap();
+        fill(&mut self.last, many);
         self.ranks.clear();
         self.ranks.resize(many, Ranks::none()).unwrap();
         self.short = Ranks::none();
@@ -419,6 +415,18 @@ impl Ranges {
         if fewer {
             self.give_back();
         }
+    }
+}
+
+/// Puts so many slots into a list that has memory for them. None has a pair.
+fn fill<P: Pair>(last: &mut Vec<Last<P>>, many: usize)
+    requires empty { last.old.items ≡ [] }
+    requires room { many ≤ vec_capacity last.old }
+    ensures many { length last.new.items ≡ many }
+    ensures none { All (λ slot. slot ≡ None) last.new.items }
+{
+    for _slot in 0..many {
+        last.push(Last::none()).unwrap();
     }
 }
 

@@ -1,10 +1,12 @@
 //! How the table of places becomes larger and smaller.
 ghost use Rattle.std.specs.Prelude.{◌≡◌, ◌+◌, ◌*◌, ◌/◌, ◌^◌, ◌<◌, ◌≤◌, ◌⊎◌, ◌&&◌, [], true, false, None, IfSome, length, nat_le, nat_lt};
-ghost use Rattle.room_index.specs.Places.{stands, AreFiled, HasSamePlaces, HaveSame, IsCounted, IsHome, IsTable};
+ghost use Rattle.room_index.specs.Places.{stands, AllAre, AreFiled, HasSamePlaces, HaveSame, IsCounted, IsHome, IsTable};
 ghost use Rattle.room_index.specs.Sizes.{Folds, IsReserved, Parts, more_places};
 
+use crate::entry::Pair;
 use crate::homes::{Homes, MOST_BITS};
 use crate::places::{FEWEST, Places};
+use crate::rooms::Rooms;
 use crate::tags::{BOTH, PLACES};
 use radix_nodes::Visits;
 
@@ -15,7 +17,7 @@ const FEWEST_BITS: u32 = 2;
 /// that has none mostly finds one in its other home.
 const DENSE: usize = 5;
 
-impl Places {
+impl<P: Pair> Places<P> {
     /// Whether its entries are many for it.
     pub(crate) fn is_dense(&self) -> bool
         ensures { result ≡ nat_le (length self.now.tags.items / PLACES) (self.now.used / DENSE) }
@@ -35,8 +37,10 @@ impl Places {
     /// Makes the table larger, where its entries are many for it, and the memory of a larger one was asked for. The new
     /// places are free.
     #[inline(always)]
-    pub(crate) fn grow(&mut self, visits: &mut Visits)
-        requires { IsTable self.old }
+    pub(crate) fn grow<R: Rooms<P>>(&mut self, rooms: &R, visits: &mut Visits)
+        requires table { IsTable self.old }
+        requires known { AllAre (R.Knows rooms.now) self.old }
+        requires turn { R.IsTurn rooms.now visits.old.turn }
         ensures table { IsTable self.new }
         ensures same { HaveSame self.old self.new }
         ensures larger { nat_le (length self.old.tags.items / PLACES) (self.old.used / DENSE) ≡ true
@@ -50,7 +54,7 @@ impl Places {
         if self.many() == 0 {
             self.begin();
         } else {
-            self.double(visits);
+            self.double(rooms, visits);
         }
     }
 
@@ -71,8 +75,10 @@ impl Places {
 
     /// Makes as many places more: each entry stays, or moves on by so many.
     #[inline(never)]
-    fn double(&mut self, visits: &mut Visits)
+    fn double<R: Rooms<P>>(&mut self, rooms: &R, visits: &mut Visits)
         requires table { IsTable self.old }
+        requires known { AllAre (R.Knows rooms.now) self.old }
+        requires turn { R.IsTurn rooms.now visits.old.turn }
         requires some { 0 < length self.old.tags.items }
         requires few { self.old.bits < MOST_BITS }
         requires reserved { IsReserved self.old }
@@ -84,13 +90,15 @@ impl Places {
         let many = self.many();
         self.lengthen(2 * many);
         for place in 0..many {
-            self.part(place, many, visits);
+            self.part(place, many, rooms, visits);
         }
         self.bits += 1;
     }
 
     /// Moves the entry of a place on by so many places, where it isn't at home there among twice as many buckets.
-    fn part(&mut self, place: usize, many: usize, visits: &mut Visits)
+    fn part<R: Rooms<P>>(&mut self, place: usize, many: usize, rooms: &R, visits: &mut Visits)
+        requires known { AllAre (R.Knows rooms.now) self.old }
+        requires turn { R.IsTurn rooms.now visits.old.turn }
         requires many { many ≡ 8 * 2 ^ self.old.bits }
         requires size { length self.old.tags.items ≡ 2 * many }
         requires even { length self.old.entries.items ≡ length self.old.tags.items }
@@ -107,15 +115,18 @@ impl Places {
         let Some(entry) = self.at(place, visits) else {
             return;
         };
-        if !Homes::of(entry.pair, self.bits + 1).has(place / PLACES) {
+        let pair = rooms.pair(entry, visits);
+        if !Homes::of(pair, self.bits + 1).has(place / PLACES) {
             self.move_to(place, place + many, visits);
         }
     }
 
     /// Makes the table smaller, where its entries are few for it. `false` where one finds no place there: then all are
     /// given up.
-    pub(crate) fn shrink(&mut self, visits: &mut Visits) -> bool
-        requires { IsTable self.old }
+    pub(crate) fn shrink<R: Rooms<P>>(&mut self, rooms: &R, visits: &mut Visits) -> bool
+        requires table { IsTable self.old }
+        requires known { AllAre (R.Knows rooms.now) self.old }
+        requires turn { R.IsTurn rooms.now visits.old.turn }
         ensures table { IsTable self.new }
         ensures same { result ≡ true → HaveSame self.old self.new }
         ensures none { (result ≡ false) ⊎ (self.old.tags.items ≡ []) → self.new.tags.items ≡ [] }
@@ -124,7 +135,7 @@ impl Places {
         if !self.is_sparse() {
             return true;
         }
-        if !self.halve(visits) {
+        if !self.halve(rooms, visits) {
             self.give_up();
             return false;
         }
@@ -132,8 +143,10 @@ impl Places {
     }
 
     /// Makes the table half as large. `false` where an entry of the upper half finds no place in the lower one.
-    fn halve(&mut self, visits: &mut Visits) -> bool
+    fn halve<R: Rooms<P>>(&mut self, rooms: &R, visits: &mut Visits) -> bool
         requires table { IsTable self.old }
+        requires known { AllAre (R.Knows rooms.now) self.old }
+        requires turn { R.IsTurn rooms.now visits.old.turn }
         requires some { 0 < length self.old.tags.items }
         requires many { 0 < self.old.bits }
         ensures table { result ≡ true → IsTable self.new }
@@ -144,7 +157,7 @@ impl Places {
         self.bits -= 1;
         let half = self.many() / 2;
         for place in half..2 * half {
-            if !self.fold(place, half, visits) {
+            if !self.fold(place, half, rooms, visits) {
                 return false;
             }
         }
@@ -153,7 +166,15 @@ impl Places {
     }
 
     /// Moves the entry of a place of the upper half to the lower one. `false` where there is no place for it.
-    fn fold(&mut self, place: usize, half: usize, visits: &mut Visits) -> bool
+    fn fold<R: Rooms<P>>(
+        &mut self,
+        place: usize,
+        half: usize,
+        rooms: &R,
+        visits: &mut Visits,
+    ) -> bool
+        requires known { AllAre (R.Knows rooms.now) self.old }
+        requires turn { R.IsTurn rooms.now visits.old.turn }
         requires half { half ≡ 8 * 2 ^ self.old.bits }
         requires bits { self.old.bits ≤ MOST_BITS }
         requires size { length self.old.tags.items ≡ 2 * half }
@@ -171,7 +192,8 @@ impl Places {
         let Some(entry) = self.at(place, visits) else {
             return true;
         };
-        let Some(free) = self.free_below(entry.pair, (place - half) / PLACES, visits) else {
+        let pair = rooms.pair(entry, visits);
+        let Some(free) = self.free_below(pair, (place - half) / PLACES, visits) else {
             return false;
         };
         self.move_to(place, free, visits);

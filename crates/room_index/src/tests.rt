@@ -91,7 +91,7 @@ impl Trial {
 
     /// How many places there is memory for, with those beside.
     fn places(&self) -> usize {
-        self.index.places.capacity()
+        self.index.rooms.places.capacity()
     }
 }
 
@@ -170,14 +170,14 @@ fn a_pair_is_near_until_it_is_struck(rt: HostRuntime) -> Result<(), Fail> {
         assert_eq!(rt; trial.is_near(scattered(number)), number >= 20, "{number}");
     }
     // as many ranges as buckets, which follow the number of pairs
-    assert_eq!(rt; trial.index.ranges.many(), 1_024);
+    assert_eq!(rt; trial.index.rooms.ranges.many(), 1_024);
     for number in 1..5_000 {
         trial.strike(scattered(number), true);
     }
     // so few slots are all beside one another
     assert!(rt; trial.is_near(scattered(0)));
     assert!(rt; trial.is_near(scattered(4_999)));
-    assert!(rt; trial.index.ranges.capacity() <= 16);
+    assert!(rt; trial.index.rooms.ranges.capacity() <= 16);
     trial.strike(scattered(0), true);
     assert!(rt; !trial.is_near(scattered(0)));
     Ok(())

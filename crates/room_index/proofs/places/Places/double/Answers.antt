@@ -8,7 +8,7 @@ use Rattle.room_index.specs.Sizes.{Parts}
 use Rattle.room_index.proofs.places.Places.double.Goals as goal
 
 pub loop-place-init : goal.loop-place-init
-loop-place-init c =
+loop-place-init g c =
     let p = c.args.self.now in
     let filed = filed_as p c.lengthen.new.self (IsHome p.bits) c.requires.table.filed c.lengthen.ensures.places.stand c.lengthen.ensures.places.same in
     record {
@@ -23,7 +23,7 @@ loop-place-init c =
     }
 
 pub loop-place-preserved : goal.loop-place-preserved
-loop-place-preserved c =
+loop-place-preserved g c =
     let was = c.loop-place.invariant in
     record {
       bits = c.part.ensures.places.bits ∙ was.bits;
@@ -36,7 +36,7 @@ loop-place-preserved c =
     }
 
 pub returns-clause-table : goal.returns-clause-table
-returns-clause-table c =
+returns-clause-table g c =
     let is = c.loop-place.invariant in
     let many = c.many-many.result in
     let ended : c.loop-place.place ≡ many = omega (arith, c.loop-place-test.false, c.loop-place.auto.place-end) in

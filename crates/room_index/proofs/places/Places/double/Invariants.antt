@@ -4,7 +4,7 @@ use Rattle.room_index.specs.Sizes.{Parts}
 use Rattle.room_index.proofs.places.Places.double.Given as goal
 
 abbrev pub invariant-loop-place : goal.invariant-loop-place
-invariant-loop-place l = record {
+invariant-loop-place g l = record {
   bits : l.self.bits ≡ l.fn.self.bits;
   tags : length l.self.tags.items ≡ 2 * l.many;
   entries : length l.self.entries.items ≡ 2 * l.many;

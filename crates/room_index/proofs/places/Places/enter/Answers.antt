@@ -4,16 +4,16 @@ use Rattle.room_index.specs.Places.{AreFiled, IsHome}
 use Rattle.room_index.proofs.places.Places.enter.Goals as goal
 
 pub returns-clause-table : goal.returns-clause-table
-returns-clause-table c =
+returns-clause-table g c =
     let old = c.args.self.now in
     let new = c.put.new.self in
     record {
       used = c.put.ensures.used;
       size = size_kept old new c.requires.table.size c.put.ensures.put.same;
       filed = subst (λ b. AreFiled new (IsHome b)) (sym c.put.ensures.put.same.bits)
-          (filed_put old new (IsHome old.bits) c.requires.table.filed c.args.place c.args.entry c.put.ensures.put c.requires.place.free c.requires.place.home c.requires.absent);
+          (filed_put old new (IsHome old.bits) c.requires.table.filed c.args.place (record { pair = c.args.pair; room = c.args.room }) c.put.ensures.put c.requires.place.free c.requires.place.home c.requires.absent);
     }
 
 pub returns-clause-entered : goal.returns-clause-entered
-returns-clause-entered c = put_adds c.args.self.now c.put.new.self (IsHome c.args.self.now.bits) c.requires.table.filed c.args.place c.args.entry c.put.ensures.put
+returns-clause-entered g c = put_adds c.args.self.now c.put.new.self (IsHome c.args.self.now.bits) c.requires.table.filed c.args.place (record { pair = c.args.pair; room = c.args.room }) c.put.ensures.put
     c.requires.place.free c.requires.place.home c.requires.absent

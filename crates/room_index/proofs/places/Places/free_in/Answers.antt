@@ -7,7 +7,7 @@ use Rattle.room_index.proofs.Standing.{stands_free}
 use Rattle.room_index.proofs.places.Places.free_in.Goals as goal
 
 pub returns-clause-free : goal.returns-clause-free
-returns-clause-free c =
+returns-clause-free g c =
     let tags = c.args.self.now.tags.items in
     let begin = 8 * c.args.bucket in
     let used = c.used_before-used.result in

@@ -8,21 +8,21 @@ use Rattle.room_index.proofs.places.Places.halve.Goals.{After-many-half}
 use Rattle.room_index.proofs.places.Places.halve.Goals as goal
 
 -- a bit less
-less : (c : After-many-half) → c.args.self.now.bits - 1 + 1 ≡ c.args.self.now.bits
-less c = omega (arith, c.requires.many)
+less : (g : _) (c : After-many-half g) → c.args.self.now.bits - 1 + 1 ≡ c.args.self.now.bits
+less g c = omega (arith, c.requires.many)
 
 -- half of the places
-half_is : (c : After-many-half) → c.many-half.result / 2 ≡ 8 * 2 ^ (c.args.self.now.bits - 1)
-half_is c = omega (arith, c.many-half.ensures, c.requires.table.size.size c.requires.some, twice (c.args.self.now.bits - 1), ap (λ b. 2 ^ b) (less c))
+half_is : (g : _) (c : After-many-half g) → c.many-half.result / 2 ≡ 8 * 2 ^ (c.args.self.now.bits - 1)
+half_is g c = omega (arith, c.many-half.ensures, c.requires.table.size.size c.requires.some, twice (c.args.self.now.bits - 1), ap (λ b. 2 ^ b) (less g c))
 
 pub loop-place-init : goal.loop-place-init
-loop-place-init c = record {
-  bits = less c;
-  tags = omega (arith, c.many-half.ensures, half_is c, c.requires.table.size.size c.requires.some, twice (c.args.self.now.bits - 1), ap (λ b. 2 ^ b) (less c));
+loop-place-init g c = record {
+  bits = less g c;
+  tags = omega (arith, c.many-half.ensures, half_is g c, c.requires.table.size.size c.requires.some, twice (c.args.self.now.bits - 1), ap (λ b. 2 ^ b) (less g c));
   entries = c.requires.table.size.even
-      ∙ omega (arith, c.many-half.ensures, half_is c, c.requires.table.size.size c.requires.some, twice (c.args.self.now.bits - 1), ap (λ b. 2 ^ b) (less c));
-  filed = folds_begin _ (c.args.self.now.bits - 1) (c.many-half.result / 2) (half_is c)
-      (filed_as c.args.self.now _ (IsHome (c.args.self.now.bits - 1 + 1)) (subst (λ b. AreFiled c.args.self.now (IsHome b)) (sym (less c)) c.requires.table.filed)
+      ∙ omega (arith, c.many-half.ensures, half_is g c, c.requires.table.size.size c.requires.some, twice (c.args.self.now.bits - 1), ap (λ b. 2 ^ b) (less g c));
+  filed = folds_begin _ (c.args.self.now.bits - 1) (c.many-half.result / 2) (half_is g c)
+      (filed_as c.args.self.now _ (IsHome (c.args.self.now.bits - 1 + 1)) (subst (λ b. AreFiled c.args.self.now (IsHome b)) (sym (less g c)) c.requires.table.filed)
       (λ n. refl) (λ n e at. refl));
   same = same_as c.args.self.now _ (λ n. refl);
   used = c.requires.table.used;
@@ -30,7 +30,7 @@ loop-place-init c = record {
 }
 
 pub loop-place-preserved : goal.loop-place-preserved
-loop-place-preserved c =
+loop-place-preserved g c =
     let was = c.loop-place.invariant in
     record {
       bits = ap (λ b. b + 1) c.fold.ensures.places.bits ∙ was.bits;
@@ -44,14 +44,14 @@ loop-place-preserved c =
     }
 
 pub shorten-requires-clause-free : goal.shorten-requires-clause-free
-shorten-requires-clause-free c n past =
+shorten-requires-clause-free g c n past =
     let is = c.loop-place.invariant in
     let lower = folds_end c.loop-place.self c.loop-place.self.bits (c.many-half.result / 2) c.loop-place.place is.filed is.entries c.loop-place-test.false
     (c.loop-place.auto.place-end (omega arith)) in
     no_entry _ (λ e at. omega (arith, (lower.places n e at).0))
 
 pub returns-clause-table : goal.returns-clause-table
-returns-clause-table c done =
+returns-clause-table g c done =
     let is = c.loop-place.invariant in
     let p = c.loop-place.self in
     let new = c.shorten.new.self in
@@ -63,7 +63,7 @@ returns-clause-table c done =
       used = c.shorten.ensures.used;
       size = record {
         even = c.shorten.ensures.places.entries ∙ sym c.shorten.ensures.places.tags;
-        size = λ some. c.shorten.ensures.places.tags ∙ half_is (goal.at.returns-clause-table c).After-many-half
+        size = λ some. c.shorten.ensures.places.tags ∙ half_is g (goal.at.returns-clause-table g c).After-many-half
             ∙ ap (λ b. 8 * 2 ^ b) (omega (arith, is.bits, same_bits));
         few = omega (arith, c.requires.table.size.few, is.bits, same_bits);
       };
@@ -71,5 +71,5 @@ returns-clause-table c done =
     }
 
 pub returns-clause-same : goal.returns-clause-same
-returns-clause-same c done = same_then c.args.self.now c.loop-place.self c.shorten.new.self c.loop-place.invariant.same
+returns-clause-same g c done = same_then c.args.self.now c.loop-place.self c.shorten.new.self c.loop-place.invariant.same
     (same_as c.loop-place.self c.shorten.new.self c.shorten.ensures.places.stand)

@@ -4,7 +4,7 @@ use Rattle.room_index.specs.Sizes.{Folds}
 use Rattle.room_index.proofs.places.Places.halve.Given as goal
 
 abbrev pub invariant-loop-place : goal.invariant-loop-place
-invariant-loop-place l = record {
+invariant-loop-place g l = record {
   bits : l.self.bits + 1 ≡ l.fn.self.bits;
   tags : length l.self.tags.items ≡ 2 * l.half;
   entries : length l.self.entries.items ≡ 2 * l.half;

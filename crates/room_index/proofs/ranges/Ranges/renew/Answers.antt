@@ -9,7 +9,7 @@ use Rattle.room_index.proofs.ranges.Ranges.renew.Goals.{in-Some, in_default}
 use Rattle.room_index.proofs.ranges.Ranges.renew.Goals as goal
 
 pub loop-place-init : goal.loop-place-init
-loop-place-init c = record {
+loop-place-init g c = record {
   ranges = c.begin.ensures.ranges;
   within = λ e has. absurd (c.begin.ensures.none e has);
   told = λ n e before at. absurd (omega arith);
@@ -18,7 +18,7 @@ loop-place-init c = record {
 }
 
 pub loop-place-preserved : goal.loop-place-preserved
-loop-place-preserved c = record {
+loop-place-preserved g c = record {
   ranges = elim c.match-at.branch [
     | in-Some w ↦ subst IsByRange (sym w.self-is) w.put.ensures.ranges
     | in_default w ↦ subst IsByRange (sym w.self-is) c.loop-place.invariant.ranges
@@ -54,5 +54,5 @@ loop-place-preserved c = record {
 }
 
 pub returns-clause-told : goal.returns-clause-told
-returns-clause-told c e at = c.loop-place.invariant.told at.0 e
+returns-clause-told g c e at = c.loop-place.invariant.told at.0 e
     (omega (arith, c.loop-place-test.false, c.many-place-end.ensures, c.requires.table.size.even, stands_within c.args.places.now.tags.items c.args.places.now.entries.items at.0 {e = e} at.1)) at.1

@@ -4,7 +4,7 @@ use Rattle.room_index.specs.Ranges.{HasSameLast, TellsMore}
 use Rattle.room_index.proofs.ranges.Ranges.tell_in.Given as goal
 
 abbrev pub invariant-loop-range : goal.invariant-loop-range
-invariant-loop-range l = record {
+invariant-loop-range g l = record {
   told : (n : ℕ) → l.from ≤ n → n < l.range → HasRank (slice_index l.self.ranks.items n) l.rank;
   more : TellsMore l.fn.self l.self;
   last : HasSameLast l.fn.self l.self;

@@ -4,20 +4,20 @@ use Rattle.room_index.proofs.Filing.{same_then}
 use Rattle.room_index.proofs.Naming.{held, keeps, none_told}
 use Rattle.room_index.proofs.Ranging.{told_fewer, told_more}
 use Rattle.room_index.specs.Names.{Keeps}
-use Rattle.room_index.proofs.index.Index.vacancy.Goals as goal
+use Rattle.room_index.proofs.index.RoomIndex.vacancy.Goals as goal
 
 pub follow-requires-clause-told : goal.follow-requires-clause-told
-follow-requires-clause-told c = told_fewer c.self.inside.ranges c.self.inside.places c.grow.new.self c.self.invariant.told c.grow.ensures.same.had
+follow-requires-clause-told g c = told_fewer c.self.inside.ranges c.self.inside.places c.grow.new.self c.self.invariant.told c.grow.ensures.same.had
 
 pub returns-clause-keeps : goal.returns-clause-keeps
-returns-clause-keeps c =
+returns-clause-keeps g c =
     let found = c.place_for.ensures.same (subst IsSome (sym c.in-Some.is) refl) in
     subst (λ h. Keeps h (held c.place_for.new.self (not c.self.inside.given_up))) c.self.view_is
     (keeps c.self.inside.places c.place_for.new.self (not c.self.inside.given_up) (same_then c.self.inside.places c.grow.new.self c.place_for.new.self c.grow.ensures.same found))
 
 -- where there is no place for it, nothing is left
 pub invariant_of-self : goal.invariant_of-self
-invariant_of-self c = record {
+invariant_of-self g c = record {
   table = c.place_for.ensures.table;
   none = λ up. c.in_default.ensures.none;
   by_range = c.clear.ensures.ranges;
@@ -27,7 +27,7 @@ invariant_of-self c = record {
 
 -- the pair has a place now, and what was told is told of the same entries
 pub invariant_of-self-2 : goal.invariant_of-self-2
-invariant_of-self-2 c =
+invariant_of-self-2 g c =
     let found = c.place_for.ensures.same (subst IsSome (sym c.in-Some.is) refl) in
     record {
       table = c.place_for.ensures.table;

@@ -6,24 +6,24 @@ use Rattle.room_index.specs.Homes.{pair}
 use Rattle.room_index.specs.Names.{Enters, IsKeptFor, Names}
 use Rattle.room_index.specs.Places.{IsIn}
 use Rattle.room_index.specs.Ranges.{IsTold}
-use Rattle.room_index.proofs.index.Index.enter.Goals as goal
+use Rattle.room_index.proofs.index.RoomIndex.enter.Goals as goal
 
 pub enter-requires-clause-absent : goal.enter-requires-clause-absent
-enter-requires-clause-absent c e at same = c.requires.absent e.room (subst (λ k. Names c.args.self.now k e.room) (same ∙ c.pair_of.ensures)
+enter-requires-clause-absent g c e at same = c.requires.absent e.room (subst (λ k. Names c.args.self.now k e.room) (same ∙ c.pair_of-pair.ensures)
     (subst (λ h. Names h e.pair e.room) c.self.view_is (is_named c.self.inside.places (not c.self.inside.given_up) e at)))
 
 pub returns-clause-entered : goal.returns-clause-entered
-returns-clause-entered c =
+returns-clause-entered g c =
     let now = held c.enter.new.self (not c.self.inside.given_up) in
-    subst (λ k. Enters c.args.self.now now k c.args.room) c.pair_of.ensures (subst (λ h. Enters h now c.pair_of.result c.args.room) c.self.view_is
-    (enters c.self.inside.places c.enter.new.self (not c.self.inside.given_up) (record { pair = c.pair_of.result; room = c.args.room }) c.enter.ensures.entered))
+    subst (λ k. Enters c.args.self.now now k c.args.room) c.pair_of-pair.ensures (subst (λ h. Enters h now c.pair_of-pair.result c.args.room) c.self.view_is
+    (enters c.self.inside.places c.enter.new.self (not c.self.inside.given_up) (record { pair = c.pair_of-pair.result; room = c.args.room }) c.enter.ensures.entered))
 
 pub returns-in_default-clause-entered : goal.returns-in_default-clause-entered
-returns-in_default-clause-entered c = enters_none c.args.self.now (pair c.args.key c.args.rank) c.args.room
+returns-in_default-clause-entered g c = enters_none c.args.self.now (pair c.args.key c.args.rank) c.args.room
     (subst (λ v. MatchOption v (c.args.self.now.whole ≡ false) (λ x. IsKeptFor c.args.self.now (pair c.args.key c.args.rank) x)) c.in_default.is c.requires.kept_for)
 
 pub invariant_of-self : goal.invariant_of-self
-invariant_of-self c = record {
+invariant_of-self g c = record {
   table = c.enter.ensures.table;
   -- where a place was kept it wasn't given up
   none = λ up.
