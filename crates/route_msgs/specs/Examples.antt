@@ -81,7 +81,8 @@ change_header = record {
 
 abbrev pub change : List ℕ
 change =
-    words (0x00740303 ∷ 0x00020b0c ∷ 0x00000903 ∷ 0x00000007 ∷ 0x00000064 ∷ 0x00000009 ∷ 0x00000011 ∷ 0x0000012c ∷ 0x000000ff ∷ [])
+    words (0x00740303 ∷ 0x00020b0c ∷ 0x00000903 ∷ 0x00000007 ∷ 0x00000064 ∷ 0x00000009 ∷ [])
+    ++ words (0x00000011 ∷ 0x0000012c ∷ 0x000000ff ∷ [])
     ++ words (0x00000013 ∷ 0x000005dc ∷ 0x00000004 ∷ 0x2f0a1b00 ∷ 0x00002000 ∷ 0x00004000 ∷ 0x00001800 ∷ [])
     ++ words (0x0003d090 ∷ 0x00007a12 ∷ 0x0000000c ∷ [])
     ++ network_words
@@ -90,7 +91,9 @@ abbrev pub change_parsed : Parsed
 change_parsed = record {
   header = record change_header { addrs = 7 };
   slots =
-      Some (record { start = 76; len = 16 }) ∷ Some (record { start = 92; len = 16 }) ∷ Some (record { start = 108; len = 5 })
+      Some (record { start = 76; len = 16 })
+      ∷ Some (record { start = 92; len = 16 })
+      ∷ Some (record { start = 108; len = 5 })
       ∷ replicate 5 None;
 }
 

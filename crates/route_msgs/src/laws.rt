@@ -55,8 +55,8 @@ pub fn named_bits_are_addresses()
     ensures { NamedBitsAreAddresses }
 {}
 
-/// Messages that are written, worked out: an address is announced, its route is added, then changed by a header of which
-/// no two fields are the same, and a question for it is answered.
+/// Messages that are written, worked out: an address is announced, its route is added, then changed by a header of
+/// which no two fields are the same, and a question for it is answered.
 pub fn writing_by_example()
     ensures announcement { ifa_message announcement_header announcement_addresses ≡ announcement }
     ensures addition { route_message addition_header network_addresses ≡ addition }
