@@ -10,10 +10,6 @@ use Rattle.program_ends.specs.Reads.{HasRead}
 use Rattle.line_reader.specs.Given.{Consumed, Needed, Parted, Spent, TookLine}
 use Rattle.line_reader.specs.declared.reader.TheConstants.{READ_ROOM}
 
--- before a read all that is left is behind a line without a byte
-pub Parted-none : (a : Option (List ℕ)) (old : List ℕ) → Parted a a old [] old
-Parted-none a old = record { read = []; consumes = Consumes-nil a; parts = append-nil old; whole = refl }
-
 both_lack : (xs ys : List ℕ) → has_newline xs ≡ false → has_newline ys ≡ false → has_newline (xs ++ ys) ≡ false
 both_lack xs ys p q = has_newline-append xs ys ∙ ap (λ t. t || has_newline ys) p ∙ q
 
@@ -93,9 +89,6 @@ HasRead-one {n} {a} {b} {c} new p consumes some = record {
 pub HasRead-last : {a b : Option (List ℕ)} (n : ℕ) → 2 ^ 64 - 1 ≤ n → n ≤ 2 ^ 64 - 1 → HasRead n a b → Spent a b
 HasRead-last {a} {b} n low high p = record { read = p.read; consumes = p.consumes; many = omega (arith, p.many, low) }
 
-pub HasRead-none : (a : Option (List ℕ)) → HasRead 0 a a
-HasRead-none a = record { read = []; consumes = Consumes-nil a; many = omega arith }
-
 -- ---- what stands in a chunk from a place on
 
 -- behind so many bytes more
@@ -132,10 +125,6 @@ line_cut chunk bytes at end place is found =
 
 pub line_uncut : (bytes : List ℕ) → position is_newline bytes ≡ None → has_newline bytes ≡ false
 line_uncut bytes none = (newline_at bytes None (sym none)).0
-
--- what stands ahead is of one read
-pub is_of_chunk : (chunk : List ℕ) (at end : ℕ) → end ≤ READ_ROOM → length (take (end - at) (drop at chunk)) ≤ READ_ROOM
-is_of_chunk chunk at end within = omega (arith, within, length-take (end - at) (drop at chunk))
 
 pub nothing_ahead : (chunk : List ℕ) (end : ℕ) → take (end - end) (drop end chunk) ≡ []
 nothing_ahead chunk end = let none : end - end ≡ 0 = omega arith in ap (λ n. take n (drop end chunk)) none

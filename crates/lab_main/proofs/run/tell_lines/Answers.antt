@@ -78,13 +78,8 @@ returns-in-Err-clause-read_fault g c = λ is. elim (c.in-Err.ensures.read_fault 
 ]
 
 pub returns-in-Err-clause-unfailed_reads : goal.returns-in-Err-clause-unfailed_reads
-returns-in-Err-clause-unfailed_reads g c = λ not_read not_written. elim c.stop-in-Err.ensures.read [
-  | inl is ↦ absurd (not_read is)
-  | inr other ↦ elim other [
-    | inl is ↦ absurd (not_written is)
-    | inr is ↦ search (rules, c.stop-in-Err.ensures.no_memory is)
-  ]
-]
+returns-in-Err-clause-unfailed_reads g c = λ not_read. c.in-Err.ensures.reads
+    (λ is. not_read (c.stop-in-Err.ensures.fault_read (cc)))
 
 pub loop-turn-preserved : goal.loop-turn-preserved
 loop-turn-preserved g c =
