@@ -7,7 +7,7 @@ use Rattle.std.proofs.KnownBytes.{Consumes-kept, Consumes-nil, Consumes-trans}
 use Rattle.event_file.specs.Lines.{first_line, has_newline, is_newline}
 use Rattle.event_file.proofs.LineLemmas.{first_line-no_newline, has_newline-append, newline_at, take-first_line}
 use Rattle.program_ends.specs.Reads.{HasRead}
-use Rattle.line_reader.specs.Given.{Consumed, Needed, Parted, Spent, TookLine}
+use Rattle.line_reader.specs.Given.{Needed, Parted, Spent, TookLine}
 use Rattle.line_reader.specs.declared.reader.TheConstants.{READ_ROOM}
 
 both_lack : (xs ys : List ℕ) → has_newline xs ≡ false → has_newline ys ≡ false → has_newline (xs ++ ys) ≡ false
@@ -56,9 +56,6 @@ Parted-more {a} {b} {c} {old} {line} new p consumes = record {
 
 pub Parted-kept : {a b c : Option (List ℕ)} {old line behind : List ℕ} → Parted a b old line behind → Keeps b c → Parted a c old line behind
 Parted-kept {a} {b} {c} p keeps = record { read = p.read; consumes = Consumes-kept a b c p.read p.consumes keeps; parts = p.parts; whole = p.whole }
-
-pub Consumed-of : {a b : Option (List ℕ)} {old line behind : List ℕ} → Parted a b old line behind → Consumed a b
-Consumed-of p = record { read = p.read; consumes = p.consumes }
 
 -- a read is needed where all that has come is of the line
 pub Needed-read : {a b c : Option (List ℕ)} {old line : List ℕ} (new : List ℕ) → Parted a b old line [] → Consumes b c new → length new ≤ READ_ROOM
