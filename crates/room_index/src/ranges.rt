@@ -224,12 +224,7 @@ impl<P: Pair> Ranges<P> {
     /// Has as many ranges as the table of places has buckets, where there is memory for them, and knows of each what
     /// the table has.
     #[inline(always)]
-    pub(crate) fn follow<R: Rooms<P>>(
-        &mut self,
-        places: &Places<P>,
-        rooms: &R,
-        visits: &mut Visits,
-    )
+    pub(crate) fn follow<R: Rooms<P>>(&mut self, places: &Places<P>, rooms: &R, visits: &mut Visits)
         requires table { IsTable places.now }
         requires known { AllAre (R.Knows rooms.now) places.now }
         requires turn { R.IsTurn rooms.now visits.old.turn }

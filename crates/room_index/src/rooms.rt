@@ -1,6 +1,5 @@
 //! Who tells which pair an entry is of.
 ghost use Rattle.std.specs.Prelude.{◌≡◌, ℕ, ◌+◌, ◌≤◌};
-
 ghost use Rattle.std.proofs.Common.{rules};
 
 use crate::entry::{Entry, Pair};

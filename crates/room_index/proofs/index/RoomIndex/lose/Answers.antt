@@ -1,4 +1,4 @@
-use Rattle.std.proofs.Common.{not, sym, subst, ap, inl, inr, length, arith}
+use Rattle.std.proofs.Common.{not, subst, ap, inl, inr, length, arith}
 use Rattle.std.proofs.lemmas.List.{nil_from_length}
 use Rattle.room_index.proofs.Naming.{held, known_in, loses, none_told}
 use Rattle.room_index.proofs.Ranging.{more_same, told_more}

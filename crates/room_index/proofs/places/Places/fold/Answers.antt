@@ -1,4 +1,4 @@
-use Rattle.std.proofs.Common.{◌*◌, ◌/◌, ◌-◌, subst, sym, ◌∙◌, arith}
+use Rattle.std.proofs.Common.{◌*◌, ◌/◌, ◌-◌, subst, sym, arith}
 use Rattle.room_index.proofs.HomeLemmas.{folded_home}
 use Rattle.room_index.proofs.Sizing.{folded_past, folded_same, folded_down}
 use Rattle.room_index.specs.Places.{IsHome}

@@ -1,4 +1,4 @@
-use Rattle.std.proofs.Common.{length, arith}
+use Rattle.std.proofs.Common.{arith}
 use Rattle.std.proofs.lemmas.Option.{slice_get_read}
 use Rattle.room_index.proofs.Ranging.{near_has}
 use Rattle.room_index.proofs.ranges.Ranges.near_in.Goals as goal
