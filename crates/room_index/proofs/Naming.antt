@@ -9,7 +9,7 @@ use Rattle.room_index.specs.Names.{AreKnown, Held, IsIndex, Keeps, Names, Enters
 use Rattle.room_index.specs.Places.{standing, Adds, AllAre, HaveSame, IsIn, IsTable, Loses as Less}
 use Rattle.room_index.specs.Homes.{pair}
 use Rattle.room_index.specs.Ranges.{entry_of, AreTold, Has, TellsRank}
-use Rattle.room_index.proofs.Ranging.{more_same, told_more}
+use Rattle.room_index.proofs.Ranging.{more_same, same_by_range, told_more}
 use Rattle.mask_table.specs.Agreeing.{masked}
 use Rattle.room_index.specs.Filed.{Filed}
 use Rattle.room_index.specs.declared.places.Places.{Places}
@@ -28,16 +28,16 @@ module _ {P : Type 0} where
     is_in k room names = (names.place, names.stands)
 
     -- whom it names stands there
-  pub known_in : (known : Filed → Type 0) → AreKnown known (held p whole) → AllAre known p
-  known_in known are e at = are e.pair e.room (is_named e at)
+    pub known_in : {h : Held} (known : Filed → Type 0) → held p whole ≡ h → AreKnown known h → AllAre known p
+    known_in {h} known is are e at = subst (AreKnown known) (sym is) are e.pair e.room (is_named e at)
 
-  -- of a pair there is one room
-  pub once_named : IsTable p → (k : ℕ) (one other : Id) → Names (held p whole) k one → Names (held p whole) k other → one ≡ other
-  once_named table k one other first second =
-      let place = table.filed.once first.place second.place _ _ first.stands second.stands refl in
-      ap (λ x. x.room) (same_Some _ _ (sym first.stands ∙ ap (standing p.tags.items p.entries.items) place ∙ second.stands))
+    -- of a pair there is one room
+    pub once_named : IsTable p → (k : ℕ) (one other : Id) → Names (held p whole) k one → Names (held p whole) k other → one ≡ other
+    once_named table k one other first second =
+        let place = table.filed.once first.place second.place _ _ first.stands second.stands refl in
+        ap (λ x. x.room) (same_Some _ _ (sym first.stands ∙ ap (standing p.tags.items p.entries.items) place ∙ second.stands))
 
-  -- without places it has none
+    -- without places it has none
     pub none_named : p.tags.items ≡ [] → (k : ℕ) (room : Id) → Names (held p whole) k room → ⊥
     none_named none k room names =
         none-some _ (sym (ap (λ tags. standing tags p.entries.items names.place) none ∙ stands_free [] p.entries.items names.place refl) ∙ names.stands)
@@ -111,12 +111,7 @@ module _ {P : Type 0} where
       record {
         table = table_as p q is.table tags entries buckets used;
         none = λ up. tags ∙ is.none up;
-        by_range = record {
-          few = subst (λ b. b ≤ 24) (sym bits) is.by_range.few;
-          finer = omega (arith, bits, finer, is.by_range.finer);
-          own = λ n e at. ap (λ b. e.pair / 2 ^ (38 - (b + s.finer)) % 2 ^ b) bits ∙ ap (λ f. e.pair / 2 ^ (38 - (r.bits + f)) % 2 ^ r.bits) finer
-              ∙ is.by_range.own n e (ap (λ xs. entry_of (slice_get xs n)) (sym last) ∙ at);
-        };
+        by_range = same_by_range r s is.by_range (record { last = last; bits = bits; finer = finer });
         within = λ e has.
             let at = is.within e (has.0, ap (λ xs. entry_of (slice_get xs has.0)) (sym last) ∙ has.1) in
             (at.0, ap (λ ts. standing ts q.entries.items at.0) tags ∙ ap (λ es. standing p.tags.items es at.0) entries ∙ at.1);

@@ -4,6 +4,8 @@ use Rattle.std.proofs.lemmas.Bool.{cases_eq, cases_lt, eq-eqb, eqb-true}
 use Rattle.std.proofs.lemmas.List.{get_or-set_same, get_or-set_other}
 use Rattle.std.proofs.lemmas.List.Elements.{All-get_or}
 use Rattle.std.specs.List.{All}
+use Rattle.std.specs.Prelude.{IfSome}
+use Rattle.radix_nodes.specs.declared.id.Id.{Id}
 use Rattle.std.proofs.lemmas.Option.{none-some, slice_get_cases, slice_get-get_or, slice_get_past}
 use Rattle.std.proofs.Math.ListN.{length-set}
 use Rattle.std.proofs.Math.Nat.{div-le_self, div-mul-le_self, div-add-mod, mod-lt, mul-div_cancel}
@@ -13,7 +15,7 @@ use Rattle.mask_table.specs.Agreeing.{front, masked}
 use Rattle.mask_table.specs.RankSets.{HasRank}
 use Rattle.room_index.specs.Homes.{pair}
 use Rattle.room_index.specs.Places.{IsIn}
-use Rattle.room_index.specs.Ranges.{entry_of, range_of, AreTold, IsByRange, IsTold, TellsMore}
+use Rattle.room_index.specs.Ranges.{entry_of, range_of, AreTold, Has, HasSameLast, IsByRange, IsTold, TellsMore}
 use Rattle.room_index.specs.Filed.{Filed}
 use Rattle.room_index.specs.declared.places.Places.{Places}
 use Rattle.room_index.specs.declared.ranges.Ranges.{Ranges}
@@ -57,6 +59,22 @@ none_by_range r few finer none = record {
   finer = finer;
   own = λ n e at. absurd (none_in r.last.items none n e at);
 }
+
+module _ {P : Type 0} where
+  -- the same slots are of the same ranges
+  pub same_by_range : (r s : Ranges P) → IsByRange r → HasSameLast r s → IsByRange s
+  same_by_range r s is same = record {
+    few = subst (λ b. b ≤ 24) (sym same.bits) is.few;
+    finer = omega (arith, same.bits, same.finer, is.finer);
+    own = λ n e at. ap (λ b. e.pair / 2 ^ (38 - (b + s.finer)) % 2 ^ b) same.bits ∙ ap (λ f. e.pair / 2 ^ (38 - (r.bits + f)) % 2 ^ r.bits) same.finer
+        ∙ is.own n e (ap (λ xs. entry_of (slice_get xs n)) (sym same.last) ∙ at);
+  }
+
+  -- the room that a slot has is of the ranges
+  pub near_has : (r : Ranges P) (slot : ℕ) (last : Option Filed) (o : Option Id) → slice_get r.last.items slot ≡ Some last
+      → IfSome o (λ room. (e : Filed) × (last ≡ Some e) × (e.room ≡ room)) → IfSome o (λ room. (e : Filed) × Has r e × (e.room ≡ room))
+  near_has r slot last None at near = tt
+  near_has r slot last (Some room) at near = (near.0, (slot, ap entry_of at ∙ near.1), near.2)
 
 -- ---- the ranges of a network
 -- the range of a pair has the first bits of its key

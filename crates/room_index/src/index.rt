@@ -7,7 +7,7 @@ ghost use Rattle.radix_nodes.specs.declared.id.Id.{Id as Room};
 ghost use Rattle.room_index.specs.Homes.{pair};
 ghost use Rattle.room_index.specs.Looks.{Reads, near_looks, pair_looks};
 ghost use Rattle.room_index.specs.Places.{used_in};
-ghost use Rattle.room_index.specs.Names.{AreKnown, Enters, IsKeptFor, Keeps, Loses, Names, Strikes};
+ghost use Rattle.room_index.specs.Names.{AreKnown, Enters, IsKeptFor, Keeps, Loses, Names};
 
 use crate::entry::Pair;
 use crate::homes::pair_of;
@@ -219,29 +219,18 @@ impl<P: Pair> RoomIndex<P> {
         self.ranges.put(pair, room, visits);
     }
 
-    /// Strikes the room of a route out. Where no route is left, the index is whole again.
-    pub fn strike<R: Rooms<P>>(
-        &mut self,
-        key: Inet,
-        rank: Rank,
-        rest: bool,
-        rooms: &R,
-        visits: &mut Visits,
-    )
+    /// Strikes the room of a route out.
+    pub fn strike<R: Rooms<P>>(&mut self, key: Inet, rank: Rank, rooms: &R, visits: &mut Visits)
         requires known { AreKnown (R.Knows rooms.now) self.old }
         requires turn { R.IsTurn rooms.now visits.old.turn }
-        ensures struck { Strikes self.old self.new (pair key rank) rest }
+        ensures struck { Loses self.old self.new (pair key rank) }
         ensures once { (one other : Room) → Names self.old (pair key rank) one → Names self.old (pair key rank) other
             → one ≡ other }
         ensures counter { visits.new.turn ≡ visits.old.turn }
     {
         // A fact for the proof: each pair has one place at most, on which `once` rests.
         let _ = &self.places;
-        if rest {
-            self.lose(pair_of(key, rank), rooms, visits);
-        } else {
-            self.begin_anew();
-        }
+        self.lose(pair_of(key, rank), rooms, visits);
     }
 
     /// Loses the room of a pair.
@@ -262,7 +251,7 @@ impl<P: Pair> RoomIndex<P> {
     }
 
     /// Has no room of any pair, and no memory, and is whole.
-    fn begin_anew(&mut self)
+    pub fn begin_anew(&mut self)
         ensures none { (k : ℕ) (room : Room) → Names self.new k room → ⊥ }
         ensures whole { self.new.whole ≡ true }
     {

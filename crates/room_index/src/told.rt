@@ -162,6 +162,9 @@ impl Index {
             → one ≡ other }
         ensures counter { visits.new.turn ≡ visits.old.turn }
     {
-        self.rooms.strike(key, rank, rest, &Told, visits);
+        self.rooms.strike(key, rank, &Told, visits);
+        if !rest {
+            self.rooms.begin_anew();
+        }
     }
 }

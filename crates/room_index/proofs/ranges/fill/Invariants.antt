@@ -2,8 +2,8 @@ use Rattle.std.proofs.Common.{◌≡◌, ◌≤◌, None, length, vec_capacity}
 use Rattle.std.specs.List.{All}
 use Rattle.room_index.proofs.ranges.fill.Given as goal
 
-abbrev pub invariant-loop-_slot : goal.invariant-loop-_slot
-invariant-loop-_slot g l = record {
+abbrev pub invariant-loop-slot : goal.invariant-loop-slot
+invariant-loop-slot g l = record {
   many : length l.last.items ≡ l._slot;
   none : All (λ slot. slot ≡ None) l.last.items;
   room : l.many ≤ vec_capacity l.last;

@@ -2,9 +2,7 @@ use Rattle.std.proofs.Common.{not, sym, subst, ap, inl, inr, length, arith}
 use Rattle.std.proofs.lemmas.List.{nil_from_length}
 use Rattle.room_index.proofs.Naming.{held, known_in, loses, none_told}
 use Rattle.room_index.proofs.Ranging.{more_same, told_more}
-use Rattle.room_index.specs.Names.{AreKnown, Loses}
-use Rattle.room_index.specs.Places.{AllAre}
-use Rattle.room_index.proofs.index.RoomIndex.lose.Goals.{After-lose}
+use Rattle.room_index.specs.Names.{Loses}
 use Rattle.room_index.proofs.index.RoomIndex.lose.Goals as goal
 
 pub returns-clause-lost : goal.returns-clause-lost
@@ -12,18 +10,14 @@ returns-clause-lost g c = subst (λ h. Loses h (held c.shrink.new.self (not c.se
     (loses c.self.inside.places c.take.new.self c.shrink.new.self (not c.self.inside.given_up) c.args.pair c.take.ensures.loses
     (c.shrink.ensures.same c.if-not-shrink.false))
 
--- the rooms of all that stood there tell its pairs
-known : (g : _) (c : After-lose g) → AllAre (g.R.Rooms.Knows c.args.rooms.now) c.self.inside.places
-known g c = known_in c.self.inside.places (not c.self.inside.given_up) _ (subst (AreKnown (g.R.Rooms.Knows c.args.rooms.now)) (sym c.self.view_is) c.requires.known)
-
 pub take-requires-clause-known : goal.take-requires-clause-known
-take-requires-clause-known g c = known g (goal.at.take-requires-clause-known g c).After-lose
+take-requires-clause-known g c = known_in c.self.inside.places (not c.self.inside.given_up) (g.R.Rooms.Knows c.args.rooms.now) c.self.view_is c.requires.known
 
 pub shrink-requires-clause-known : goal.shrink-requires-clause-known
-shrink-requires-clause-known g c e at = known g (goal.at.shrink-requires-clause-known g c).After-lose e (c.take.ensures.loses.fewer e at).0
+shrink-requires-clause-known g c e at = known_in c.self.inside.places (not c.self.inside.given_up) (g.R.Rooms.Knows c.args.rooms.now) c.self.view_is c.requires.known e (c.take.ensures.loses.fewer e at).0
 
 pub follow-requires-clause-known : goal.follow-requires-clause-known
-follow-requires-clause-known g c e at = known g (goal.at.follow-requires-clause-known g c).After-lose e
+follow-requires-clause-known g c e at = known_in c.self.inside.places (not c.self.inside.given_up) (g.R.Rooms.Knows c.args.rooms.now) c.self.view_is c.requires.known e
     (c.take.ensures.loses.fewer e ((c.shrink.ensures.same c.if-not-shrink.false).had e at)).0
 
 pub follow-requires-clause-within : goal.follow-requires-clause-within

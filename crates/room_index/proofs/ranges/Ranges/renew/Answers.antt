@@ -1,12 +1,18 @@
-use Rattle.std.proofs.Common.{◌≡◌, Some, length, sym, ap, subst, ◌∙◌, inl, inr, arith}
+use Rattle.std.proofs.Common.{◌≡◌, ℕ, Some, length, sym, ap, subst, ◌∙◌, inl, inr, arith}
 use Rattle.std.proofs.lemmas.Bool.{cases_eq}
 use Rattle.std.proofs.lemmas.Option.{none-some, same_Some}
 use Rattle.room_index.proofs.Ranging.{told_more}
 use Rattle.room_index.proofs.Standing.{stands_within}
+use Rattle.radix_nodes.specs.declared.id.Id.{Id}
+use Rattle.room_index.specs.Filed.{Filed}
 use Rattle.room_index.specs.Places.{stands}
 use Rattle.room_index.specs.Ranges.{Has, IsByRange, IsTold}
 use Rattle.room_index.proofs.ranges.Ranges.renew.Goals.{in-Some, in_default}
 use Rattle.room_index.proofs.ranges.Ranges.renew.Goals as goal
+
+-- the pair and the room of an entry are all of it
+read : (e : Filed) {pair : ℕ} {room : Id} → pair ≡ e.pair → room ≡ e.room → e ≡ record { pair = pair; room = room }
+read e {pair} of at = ap (λ k. record { pair = k; room = e.room }) (sym of) ∙ ap (λ r. record { pair = pair; room = r }) (sym at)
 
 pub loop-place-init : goal.loop-place-init
 loop-place-init g c = record {
@@ -25,7 +31,7 @@ loop-place-preserved g c = record {
   ];
   within = λ e has. elim c.match-at.branch [
     | in-Some w ↦ elim (w.put.ensures.only e (subst (λ r. Has r e) w.self-is has)) [
-      | inl own ↦ (c.loop-place.place, sym c.at.ensures.entry ∙ w.in-Some.is ∙ ap Some (sym own))
+      | inl own ↦ (c.loop-place.place, w.in-Some.ensures.some ∙ ap Some (read w.in-Some.entry.now w.pair-pair.ensures.pair w.room.ensures ∙ sym own))
       | inr had ↦ c.loop-place.invariant.within e had
     ]
     | in_default w ↦ c.loop-place.invariant.within e (subst (λ r. Has r e) w.self-is has)
@@ -33,13 +39,13 @@ loop-place-preserved g c = record {
   told = λ n e before at. elim c.match-at.branch [
     | in-Some w ↦ elim (cases_eq n c.loop-place.place) [
       | inl same ↦
-          let own : w.in-Some.entry ≡ e = same_Some w.in-Some.entry e (sym w.in-Some.is ∙ c.at.ensures.entry ∙ ap (stands c.args.places.now) (sym same) ∙ at) in
-          subst (λ r. IsTold r e.pair) (sym w.self-is) (subst (λ x. IsTold w.put.new.self x.pair) own w.put.ensures.told)
+          let own : w.in-Some.entry.now ≡ e = same_Some w.in-Some.entry.now e (sym w.in-Some.ensures.some ∙ ap (stands c.args.places.now) (sym same) ∙ at) in
+          subst (λ r. IsTold r e.pair) (sym w.self-is) (subst (IsTold w.put.new.self) (w.pair-pair.ensures.pair ∙ ap (λ x. x.pair) own) w.put.ensures.told)
       | inr other ↦ subst (λ r. IsTold r e.pair) (sym w.self-is)
           (told_more c.loop-place.self w.put.new.self e.pair w.put.ensures.more (c.loop-place.invariant.told n e (omega arith) at))
     ]
     | in_default w ↦ elim (cases_eq n c.loop-place.place) [
-      | inl same ↦ absurd (none-some e (sym w.in_default.is ∙ c.at.ensures.entry ∙ ap (stands c.args.places.now) (sym same) ∙ at))
+      | inl same ↦ absurd (none-some e (sym w.in_default.ensures.none ∙ ap (stands c.args.places.now) (sym same) ∙ at))
       | inr other ↦ subst (λ r. IsTold r e.pair) (sym w.self-is) (c.loop-place.invariant.told n e (omega arith) at)
     ]
   ];
@@ -48,7 +54,7 @@ loop-place-preserved g c = record {
     | in_default w ↦ ap (λ r. length r.last.items) w.self-is ∙ c.loop-place.invariant.many
   ];
   counter = elim c.match-at.branch [
-    | in-Some w ↦ ap (λ v. v.turn) w.visits-is ∙ w.put.ensures.counter ∙ ap (λ v. v.turn) c.at.ensures.look ∙ c.loop-place.invariant.counter
+    | in-Some w ↦ ap (λ v. v.turn) w.visits-is ∙ w.put.ensures.counter ∙ ap (λ v. v.turn) w.pair-pair.ensures.looks ∙ ap (λ v. v.turn) c.at.ensures.look ∙ c.loop-place.invariant.counter
     | in_default w ↦ ap (λ v. v.turn) w.visits-is ∙ ap (λ v. v.turn) c.at.ensures.look ∙ c.loop-place.invariant.counter
   ];
 }
