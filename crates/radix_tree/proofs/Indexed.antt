@@ -5,7 +5,7 @@ use Rattle.radix_tree.proofs.{MovedReads.back_same, MovedReads.next_same}
 use Rattle.radix_tree.proofs.Words.{inside, none_some, MatchOption, Indexes, place_of, places_in, ◌≡◌, ℕ, ◌<◌, ◌≤◌, true, false, List, Option, Some, None, refl}
 use Rattle.radix_tree.proofs.Words.{sym, ap, subst, ◌∙◌, arith, Id, Node, Placed, Ptr, IsIn, LeafPart, leaves_in, Tells, Finds, Best, HasPair, In, shown}
 use Rattle.radix_tree.proofs.Words.{IsWhole, AreCounted, Lodged, IsRoute, bits_in, inl, inr, cases_eq, entry_at, routes_of, masked, number_of, HasPlaceMore}
-use Rattle.radix_tree.proofs.Words.{HasPlaceLess, pair, if◌then◌else◌, true≢false, Bool, eq-eqb, ne_eqb, Entry, Rooms, Holds, is_some, IsKept, IsSome}
+use Rattle.radix_tree.proofs.Words.{HasPlaceLess, pair, if◌then◌else◌, true≢false, eq-eqb, ne_eqb, Entry, Rooms, Holds, is_some, IsKept, IsSome}
 use Rattle.radix_tree.proofs.Words.{with_place, link_in, content_of, KeepsRoutes, lodge_leaf, Leaf, IfNone, IfSome, Seen, get, leaf_in}
 use Rattle.mask_table.proofs.Agreeing.{masked_agrees, agrees_where_masked_equal}
 use Rattle.std.specs.Prelude.{◌↔◌}
