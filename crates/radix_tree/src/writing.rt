@@ -87,11 +87,8 @@ impl<V: Drop> Table<V> {
         ensures turn { self.new.turn ≡ self.old.turn + 1 }
     {
         let mut visits = self.begin();
-        if self
-            .index
-            .find(key, rank, &self.nodes, &mut visits)
-            .is_some()
-        {
+        let index = &self.index;
+        if index.find(key, rank, &self.nodes, &mut visits).is_some() {
             return Err((room, value));
         }
         self.put(room, key, rank, value, &mut visits)
