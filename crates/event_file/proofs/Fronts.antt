@@ -91,10 +91,6 @@ module _ {T : Type 0} {contents : T → Option (List ℕ)} where
     wrote = Wrote-then p.wrote q.wrote;
   }
 
-  pub KeptBack-written : {a b c : Counts T} {t k : List ℕ} (u : List ℕ) → KeptBack contents a b t k → Wrote contents b c (k ++ u) → Wrote contents a c (t ++ u)
-  KeptBack-written {a} {b} {c} {t} {k} u p q =
-      subst (λ l. Wrote contents a c l) (sym (ap (λ l. l ++ u) p.whole ∙ append_assoc p.written k u)) (Wrote-then p.wrote q)
-
   pub KeptBack-stopped : {a b c : Counts T} {t k : List ℕ} (u : List ℕ) → KeptBack contents a b t k → WroteFront contents b c (k ++ u) → WroteFront contents a c (t ++ u)
   KeptBack-stopped {a} {b} {c} {t} {k} u p q =
       subst (λ l. WroteFront contents a c l) (sym (ap (λ l. l ++ u) p.whole ∙ append_assoc p.written k u)) (WroteFront-then p.wrote q)

@@ -6,7 +6,7 @@ use Rattle.event_file.specs.Answers.{message_line}
 use Rattle.event_file.specs.Counts.{Counts}
 use Rattle.event_file.specs.Output.{KeptBack, WroteFront}
 use Rattle.route_core.specs.Received.{cut, AreMessages}
-use Rattle.event_file.proofs.Fronts.{KeptBack-all, KeptBack-then, KeptBack-stopped, WroteFront-more}
+use Rattle.event_file.proofs.Fronts.{KeptBack-then, KeptBack-stopped, WroteFront-more}
 
 abbrev pub lines : List (List ℕ) → List ℕ
 lines messages = flat_map message_line messages
@@ -22,10 +22,7 @@ pub record KeptMessages {T : Type 0} (contents : T → Option (List ℕ)) (old n
   pub whole : AreMessages rest
 
 module _ {T : Type 0} {contents : T → Option (List ℕ)} where
-  pub KeptMessages-none : (w : Counts T) (bytes : List ℕ) → AreMessages bytes → KeptMessages contents w w bytes bytes []
-  KeptMessages-none w bytes h = record { messages = []; parted = refl; back = KeptBack-all w []; whole = h }
-
-  -- and that of one more
+  -- that of one more
   pub KeptMessages-more : {a b c : Counts T} {bytes rest kept now : List ℕ} (m left : List ℕ) → KeptMessages contents a b bytes rest kept → cut rest ≡ m ∷ cut left → AreMessages left
       → KeptBack contents b c (kept ++ message_line m) now → KeptMessages contents a c bytes left now
   KeptMessages-more {a} {b} {c} {bytes} {rest} {kept} {now} m left p e h q = record {

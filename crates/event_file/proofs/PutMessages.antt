@@ -37,9 +37,6 @@ pub record PutLines (bytes rest old new : List ℕ) (end : ℕ) : Type 0 where
   pub stand : new ≡ pasted 0 (lines messages) old
   pub whole : AreMessages rest
 
-pub PutLines-none : (bytes room : List ℕ) → AreMessages bytes → PutLines bytes bytes room room 0
-PutLines-none bytes room h = record { messages = []; parted = refl; ended = refl; stand = refl; whole = h }
-
 -- there is room for the next
 pub PutLines-room : {bytes rest old new : List ℕ} {end : ℕ} (m left : List ℕ) → PutLines bytes rest old new end → cut rest ≡ m ∷ cut left → length (lines (cut bytes)) ≤ length old
     → (end + (5 + 2 * length m) ≤ length old) × (length new ≡ length old)

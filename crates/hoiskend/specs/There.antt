@@ -1,5 +1,5 @@
 -- What is in a world as the calls that tell it see it.
-use Rattle.std.specs.Prelude.{ℕ, ◌==◌, not, nat_le, if◌then◌else◌, List, length, Option, Some, None, option_map, bit_and}
+use Rattle.std.specs.Prelude.{ℕ, ◌==◌, not, nat_le, if◌then◌else◌, length, Option, Some, None, option_map, bit_and}
 use Rattle.sock_addrs.specs.Errno.{errno_number}
 use Rattle.sock_addrs.specs.Padded.{padded_to}
 use Rattle.sock_addrs.specs.declared.errno.Errno.{Errno}

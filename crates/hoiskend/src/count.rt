@@ -8,6 +8,8 @@ use std::marker::Model;
 
 /// How often memory was refused to the call that wrote it. It has no bytes: C doesn't see it, and what holds it is to C
 /// as if it stood there alone.
+// Its `also_owns` lets code make one only where that is proved by hand, and that is `of` alone: so no call can write a
+// number that isn't a `Memory`'s count. A field of `Memory` itself can't stand in what C hands in.
 #[repr(C)]
 #[derive(Drop)]
 pub struct Count {

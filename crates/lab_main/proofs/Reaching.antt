@@ -6,21 +6,20 @@ use Rattle.std.proofs.lemmas.List.Elements.{All-append, All-cons}
 use Rattle.event_file.specs.Lines.{AreLines, has_newline, with_newlines}
 use Rattle.event_file.specs.Output.{WroteFront}
 use Rattle.event_file.specs.Counts.{Counts}
-use Rattle.line_reader.proofs.Parting.{Consumed-of}
-use Rattle.line_reader.specs.Given.{Begun, Consumed, Parted, Spent}
+use Rattle.line_reader.specs.Given.{Begun, Parted, Spent}
 use Rattle.line_reader.specs.declared.fault.Fault.{Fault}
 use Rattle.line_reader.specs.declared.fault.Fault.TheVariants as broken
 use Rattle.line_reader.specs.declared.reader.TheConstants.{READ_ROOM}
 use Rattle.program_ends.proofs.ReadLemmas.{Appends-kept}
 use Rattle.program_ends.specs.declared.outcome.Outcome.{Outcome}
 use Rattle.program_ends.specs.declared.outcome.Outcome.TheVariants.{Done, BadLine, ReadFault, WriteFault, NoMemory}
-use Rattle.lab_main.specs.Ends.{AreAll, AreFirst, Cut, CutLast, Ends, EndingFront, Finishes, ToldAll, ToldEnded, ToldFront, ToldLines}
+use Rattle.lab_main.specs.Ends.{AreAll, AreFirst, Cut, CutLast, Ends, EndingFront, Finishes, IsOneLine, ToldAll, ToldEnded, ToldFront, ToldLines}
 use Rattle.lab_main.specs.Faults.{Broke}
 use Rattle.lab_main.specs.Progress.{Reached}
 use Rattle.lab_main.specs.Telling.{State, Tells, Told, fresh, if_any}
 use Rattle.lab_main.specs.Texts.{ending}
 use Rattle.lab_main.specs.declared.shows.Shows.{Shows}
-use Rattle.lab_main.proofs.Untold.{Consumed-left, Left, all_left, none_left}
+use Rattle.lab_main.proofs.Untold.{Left, Left-needed, Left-parted, all_left, few_left, none_left}
 
 -- ---- lines
 
@@ -78,7 +77,7 @@ Spent-behind {a} {b} {c} p q = record {
   many = omega (arith, q.many, length-append p.read q.read);
 }
 
-Cut-read : {a b c : Option (List ℕ)} {lines : List (List ℕ)} {old : List ℕ} (p : Cut a b lines old) (q : Consumed b c) → Cut a c lines (old ++ q.read)
+Cut-read : {a b c : Option (List ℕ)} {lines : List (List ℕ)} {old : List ℕ} (p : Cut a b lines old) (q : Left b c old) → Cut a c lines (old ++ q.read)
 Cut-read {a} {b} {c} {lines} {old} p q = record {
   read = p.read ++ q.read;
   consumes = Consumes-trans a b c p.read q.read p.consumes q.consumes;
@@ -144,6 +143,7 @@ finished_front o a b c d e lines text s all told appends front = record {
   written = text ++ front.written;
   unwritten = front.unwritten;
   first = all.1;
+  untold = all_left a b lines s all;
   told = told;
   whole = ap (λ x. text ++ x) front.whole ∙ sym (append_assoc text front.written front.unwritten);
   appends = Appends-trans c d e text front.written appends front.appends;
@@ -194,16 +194,17 @@ Ends-over outcome {o = o} {a = a} {b = b} {c = c} {d = d} e {s = s} {behind = be
     Ends-finished outcome o a b c d e p.lines p.text s (behind, inl p.cut, inl (over, few)) p.told p.appends finishes
 
 -- at a fault between lines
-pub Front-between : {n : ℕ} {o : Shows} {a b c d e f : Option (List ℕ)} {s : State} {old : List ℕ} → Reached n o a b d e s old → Consumed b c → Keeps e f
+pub Front-between : {n : ℕ} {o : Shows} {a b c d e f : Option (List ℕ)} {s : State} {old : List ℕ} → Reached n o a b d e s old → Left b c old → Keeps e f
     → ToldFront o a c d f
-Front-between {d = d} {e = e} {f = f} {s = s} {old = old} p read keeps = record {
+Front-between {d = d} {e = e} {f = f} {s = s} {old = old} p left keeps = record {
   lines = p.lines;
-  behind = old ++ read.read;
+  behind = old ++ left.read;
   text = p.text;
   last = s;
   written = p.text;
   unwritten = ending s.bad;
-  first = inl (Cut-read p.cut read);
+  first = inl (Cut-read p.cut left);
+  untold = left.one;
   told = p.told;
   whole = refl;
   appends = Appends-kept d e f p.text p.appends keeps;
@@ -217,7 +218,7 @@ Lines-between {d = d} {e = e} {f = f} {s = s} {old = old} p left keeps = record 
   behind = old ++ left.read;
   text = p.text;
   last = s;
-  first = inl (Cut-read p.cut (record { read = left.read; consumes = left.consumes }));
+  first = inl (Cut-read p.cut left);
   untold = left.one;
   told = p.told;
   appends = Appends-kept d e f p.text p.appends keeps;
@@ -243,7 +244,7 @@ pub Ends-between : (outcome : Outcome) {n : ℕ} {o : Shows} {a b c d e : Option
     → Reached n o a b d e s old → (outcome ≡ ReadFault → Begun b c old line) → Left b c old → Keeps e f → Keeps f g
     → (outcome ≡ ReadFault) ⊎ (outcome ≡ WriteFault) ⊎ (outcome ≡ NoMemory) → Ends o outcome a c d g s
 Ends-between ReadFault {e = e} f g line p begun left keeps kept is = Ended-between line p (begun refl) (Keeps-trans e f g keeps kept)
-Ends-between WriteFault {e = e} f g line p begun left keeps kept is = Front-between p (Consumed-left left) (Keeps-trans e f g keeps kept)
+Ends-between WriteFault {e = e} f g line p begun left keeps kept is = Front-between p left (Keeps-trans e f g keeps kept)
 Ends-between NoMemory {e = e} f g line p begun left keeps kept is = Lines-between p left (Keeps-trans e f g keeps kept)
 Ends-between Done f g line p begun left keeps kept (inl is) = absurd (cc)
 Ends-between Done f g line p begun left keeps kept (inr (inl is)) = absurd (cc)
@@ -254,9 +255,9 @@ Ends-between BadLine f g line p begun left keeps kept (inr (inr is)) = absurd (c
 
 -- the writer stopped within what is told of a line
 front_within : {W : Type 0} (contents : W → Option (List ℕ)) (w v : Counts W) (o : Shows) (a c d : Option (List ℕ)) (lines : List (List ℕ)) (line behind text said : List ℕ) (s t : State)
-    → AreFirst a c (lines ++ line ∷ []) behind → Told o fresh lines text s → Appends d (contents w.inner) text → Tells o s line said t
+    → AreFirst a c (lines ++ line ∷ []) behind → IsOneLine behind → Told o fresh lines text s → Appends d (contents w.inner) text → Tells o s line said t
     → WroteFront contents w v said → ToldFront o a c d (contents v.inner)
-front_within contents w v o a c d lines line behind text said s t first told appends tells front = record {
+front_within contents w v o a c d lines line behind text said s t first untold told appends tells front = record {
   lines = lines ++ line ∷ [];
   behind = behind;
   text = text ++ said;
@@ -264,6 +265,7 @@ front_within contents w v o a c d lines line behind text said s t first told app
   written = text ++ front.written;
   unwritten = front.unwritten ++ ending t.bad;
   first = first;
+  untold = untold;
   told = Told-then o lines (line ∷ []) fresh s t text said told (Told-one o s t line said tells);
   whole = ap (λ x. (text ++ x) ++ ending t.bad) front.whole
       ∙ ap (λ x. x ++ ending t.bad) (sym (append_assoc text front.written front.unwritten))
@@ -280,6 +282,7 @@ front_kept {d = d} {e = e} {f = f} p keeps = record {
   written = p.written;
   unwritten = p.unwritten;
   first = p.first;
+  untold = p.untold;
   told = p.told;
   whole = p.whole;
   appends = Appends-kept d e f p.written p.appends keeps;
@@ -288,12 +291,12 @@ front_kept {d = d} {e = e} {f = f} p keeps = record {
 -- a line can't be told to its end
 pub Front-line : {W : Type 0} (contents : W → Option (List ℕ)) (w v : Counts W) {n : ℕ} {o : Shows} {a b c d : Option (List ℕ)} (e : Option (List ℕ)) {s : State} {old : List ℕ}
     (fault : Fault) (line rest : List ℕ) (t : State) → Reached n o a b d (contents w.inner) s old → Parted b c old line (10 ∷ rest)
-    → Broke contents o fault s line t w v → Keeps (contents v.inner) e → ToldFront o a c d e
-Front-line contents w v e broken.Read line rest t p parted broke keeps = absurd broke
-Front-line contents w v {o = o} {a = a} {c = c} {d = d} e {s = s} broken.Write line rest t p parted (said, tells, front) keeps =
-    front_kept (front_within contents w v o a c d p.lines line rest p.text said s t (inl (Cut-line line rest p.cut parted)) p.told p.appends tells front) keeps
-Front-line contents w v {d = d} e broken.NoMemory line rest t p parted broke keeps =
-    Front-between p (Consumed-of parted) (subst (λ (x : Counts _). Keeps (contents x.inner) e) broke keeps)
+    → length rest ≤ READ_ROOM → Broke contents o fault s line t w v → Keeps (contents v.inner) e → ToldFront o a c d e
+Front-line contents w v e broken.Read line rest t p parted few broke keeps = absurd broke
+Front-line contents w v {o = o} {a = a} {c = c} {d = d} e {s = s} broken.Write line rest t p parted few (said, tells, front) keeps =
+    front_kept (front_within contents w v o a c d p.lines line rest p.text said s t (inl (Cut-line line rest p.cut parted)) (few_left rest few) p.told p.appends tells front) keeps
+Front-line contents w v {d = d} e broken.NoMemory line rest t p parted few broke keeps =
+    Front-between p (Left-parted parted (omega (arith, few))) (subst (λ (x : Counts _). Keeps (contents x.inner) e) broke keeps)
 
 -- nor can the last one
 pub Front-last : {W : Type 0} (contents : W → Option (List ℕ)) (w v : Counts W) {n : ℕ} {o : Shows} {a b c d : Option (List ℕ)} (e : Option (List ℕ)) {s : State} {old : List ℕ}
@@ -302,9 +305,9 @@ pub Front-last : {W : Type 0} (contents : W → Option (List ℕ)) (w v : Counts
 Front-last contents w v e broken.Read line t p parted broke keeps = absurd broke
 Front-last contents w v {o = o} {a = a} {c = c} {d = d} e {s = s} broken.Write line t p (parted, end, some) (said, tells, front) keeps =
     let last : CutLast a c (p.lines ++ line ∷ []) = record { whole = p.lines; last = line; cut = Cut-rest line p.cut parted; line = parted.whole; some = some; lines_are = refl; at_end = end } in
-    front_kept (front_within contents w v o a c d p.lines line [] p.text said s t (inr (last, refl)) p.told p.appends tells front) keeps
+    front_kept (front_within contents w v o a c d p.lines line [] p.text said s t (inr (last, refl)) none_left p.told p.appends tells front) keeps
 Front-last contents w v e broken.NoMemory line t p (parted, end, some) broke keeps =
-    Front-between p (Consumed-of parted) (subst (λ (x : Counts _). Keeps (contents x.inner) e) broke keeps)
+    Front-between p (Left-parted parted (omega arith)) (subst (λ (x : Counts _). Keeps (contents x.inner) e) broke keeps)
 
 -- where there was no memory for a line it isn't told at all
 pub Lines-line : {W : Type 0} (contents : W → Option (List ℕ)) (w v : Counts W) {n : ℕ} {o : Shows} {a b c d : Option (List ℕ)} (e : Option (List ℕ)) {s : State} {old : List ℕ}
@@ -349,8 +352,9 @@ Lines-none o a c = record {
   appends = Appends-nil c;
 }
 
-pub Front-now : {n : ℕ} {o : Shows} {a b d e f : Option (List ℕ)} {s : State} {old : List ℕ} → Reached n o a b d e s old → Keeps e f → ToldFront o a b d f
-Front-now {b = b} p keeps = Front-between p (record { read = []; consumes = Consumes-nil b }) keeps
+pub Front-now : {n : ℕ} {o : Shows} {a b d e f : Option (List ℕ)} {s : State} {old : List ℕ} → Reached n o a b d e s old → length old ≤ READ_ROOM → Keeps e f
+    → ToldFront o a b d f
+Front-now p few keeps = Front-between p (Left-needed (inl refl) few) keeps
 
 -- each line has a newline behind it
 newlines_many : (lines : List (List ℕ)) → length lines ≤ length (with_newlines lines)

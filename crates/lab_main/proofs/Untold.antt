@@ -2,7 +2,7 @@
 use Rattle.std.proofs.Common.{◌≡◌, ◌⊎◌, ◌+◌, ◌≤◌, ℕ, List, [], ◌++◌, Option, length, refl, sym, subst, append_assoc, append-nil, inl, inr, arith}
 use Rattle.std.specs.Io.KnownBytes.{Consumes}
 use Rattle.std.proofs.KnownBytes.{Consumes-nil, Consumes-trans}
-use Rattle.line_reader.specs.Given.{Consumed, Needed, Parted}
+use Rattle.line_reader.specs.Given.{Needed, Parted}
 use Rattle.line_reader.specs.declared.reader.TheConstants.{READ_ROOM}
 use Rattle.lab_main.specs.Ends.{AreAll, IsOneLine}
 use Rattle.lab_main.specs.Telling.{State}
@@ -25,9 +25,6 @@ pub record Left (a b : Option (List ℕ)) (old : List ℕ) : Type 0 where
   pub read : List ℕ
   pub consumes : Consumes a b read
   pub one : IsOneLine (old ++ read)
-
-pub Consumed-left : {a b : Option (List ℕ)} {old : List ℕ} → Left a b old → Consumed a b
-Consumed-left p = record { read = p.read; consumes = p.consumes }
 
 -- with a line that was read to its end
 pub Left-parted : {a b : Option (List ℕ)} {old line behind : List ℕ} → Parted a b old line behind → length behind ≤ READ_ROOM + 1 → Left a b old

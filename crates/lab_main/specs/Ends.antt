@@ -57,7 +57,16 @@ pub record ToldEnded (o : Shows) (before after old new : Option (List ℕ)) (las
   pub told : Told o fresh lines text last
   pub appends : Appends old new text
 
--- what was written stands before an unwritten rest of what may be told of lines that were read, and behind all of them
+-- this is no more than one line, as far as it has come, and behind it a newline and what was read at once with that
+pub record IsOneLine (behind : List ℕ) : Type 0 where
+  pub line : List ℕ
+  pub rest : List ℕ
+  pub parts : behind ≡ line ++ rest
+  pub whole : has_newline line ≡ false
+  pub few : length rest ≤ READ_ROOM + 1
+
+-- what was written stands before an unwritten rest of what may be told of lines that were read, and behind all of them;
+-- and one line at most was read that isn't one of these, but for what was read at once with its end
 pub record ToldFront (o : Shows) (before after old new : Option (List ℕ)) : Type 0 where
   pub lines : List (List ℕ)
   pub behind : List ℕ
@@ -66,17 +75,10 @@ pub record ToldFront (o : Shows) (before after old new : Option (List ℕ)) : Ty
   pub written : List ℕ
   pub unwritten : List ℕ
   pub first : AreFirst before after lines behind
+  pub untold : IsOneLine behind
   pub told : Told o fresh lines text last
   pub whole : text ++ ending last.bad ≡ written ++ unwritten
   pub appends : Appends old new written
-
--- this is no more than one line, as far as it has come, and behind it a newline and what was read at once with that
-pub record IsOneLine (behind : List ℕ) : Type 0 where
-  pub line : List ℕ
-  pub rest : List ℕ
-  pub parts : behind ≡ line ++ rest
-  pub whole : has_newline line ≡ false
-  pub few : length rest ≤ READ_ROOM + 1
 
 -- exactly these lines were told, to their ends, of those that were read, and one line at most was read that wasn't
 -- told, but for what was read at once with its end

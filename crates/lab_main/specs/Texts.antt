@@ -3,7 +3,8 @@ use Rattle.std.specs.Prelude.{ℕ, List, [], ◌∷◌, ◌++◌, codes, decimal
 use Rattle.hex.specs.Hex.{encode_lower}
 use Rattle.event_file.specs.Lines.{lines_of}
 
--- ---- what came from outside, of which no byte is to be obeyed by a terminal
+-- ---- what came from outside, shown to a terminal without the control characters of ASCII; bytes from 128 on, of which
+-- some terminals obey a few too, stay as they are
 
 abbrev pub is_control : ℕ → Bool
 is_control b = nat_lt b 32 || b == 127

@@ -48,11 +48,11 @@ pub(crate) fn run<R: Read, W: Write>(
     ensures prompt { reader.new.early_reads ≡ reader.old.early_reads }
     ensures flushed { writer.old.unflushed ≡ false → result ≢ Outcome.WriteFault → writer.new.unflushed ≡ false }
 
-    // A fault comes only where a read or a write failed, or where 2^64 - 1 bytes were read. A read fault behind which
-    // what was told can't be flushed is a write fault.
+    // A fault comes only where a read or a write failed, or where 2^64 - 1 bytes were read. What was told is flushed
+    // before each read, so that a read which fails always ends the run as a read fault.
     ensures read_fault { result ≡ Outcome.ReadFault → (reader.new.failures ≡ 1)
         ⊎ Spent (R.remaining reader.old.inner) (R.remaining reader.new.inner) }
-    ensures unfailed_reads { result ≢ Outcome.ReadFault → result ≢ Outcome.WriteFault → reader.new.failures ≡ 0 }
+    ensures unfailed_reads { result ≢ Outcome.ReadFault → reader.new.failures ≡ 0 }
     ensures write_fault { result ≡ Outcome.WriteFault → writer.new.failures ≡ 1 }
     ensures unfailed_writes { result ≢ Outcome.WriteFault → writer.new.failures ≡ 0 }
 
@@ -87,7 +87,7 @@ fn tell_lines<R: Read, W: Write>(
     ensures flushed { result ≢ Outcome.WriteFault → writer.new.unflushed ≡ false }
     ensures read_fault { result ≡ Outcome.ReadFault → (reader.new.failures ≡ 1)
         ⊎ Spent (R.remaining reader.old.inner) (R.remaining reader.new.inner) }
-    ensures unfailed_reads { result ≢ Outcome.ReadFault → result ≢ Outcome.WriteFault → reader.new.failures ≡ 0 }
+    ensures unfailed_reads { result ≢ Outcome.ReadFault → reader.new.failures ≡ 0 }
     ensures write_fault { result ≡ Outcome.WriteFault → writer.new.failures ≡ 1 }
     ensures unfailed_writes { result ≢ Outcome.WriteFault → writer.new.failures ≡ 0 }
     ensures no_memory { result ≡ Outcome.NoMemory → memory.old < memory.new }
@@ -137,6 +137,7 @@ fn tell_line<W: Write>(
     requires no_write_failure { writer.old.failures ≡ 0 }
     ensures told { OnOk result ((said : List ℕ) × Tells shows lab.old line.now said lab.new
         × Wrote W.contents writer.old writer.new said) }
+    ensures never_read { result ≢ Err Fault.Read }
     ensures fault { IfErr result (λ fault. Broke W.contents shows fault lab.old line.now lab.new writer.old writer.new) }
     ensures counted { Rises (wants_memory result) memory.old memory.new }
 {
@@ -177,26 +178,26 @@ fn finish<W: Write>(
     Outcome::Done
 }
 
-/// Flushes what was told before a fault that isn't the writer's, and says how the run ended.
+/// Flushes what was told before a want of memory, and says how the run ended. Before a read fault all is flushed.
 fn stop<W: Write>(fault: Fault, writer: &mut Counted<W>) -> Outcome
     requires failed { fault ≡ Fault.Write → writer.old.failures ≡ 1 }
     requires unfailed { fault ≢ Fault.Write → writer.old.failures ≡ 0 }
+    requires flushed { fault ≡ Fault.Read → writer.old.unflushed ≡ false }
     ensures keeps { Keeps (W.contents writer.old.inner) (W.contents writer.new.inner) }
     ensures read { (result ≡ Outcome.ReadFault) ⊎ (result ≡ Outcome.WriteFault) ⊎ (result ≡ Outcome.NoMemory) }
     ensures read_fault { result ≡ Outcome.ReadFault → fault ≡ Fault.Read }
+    ensures fault_read { fault ≡ Fault.Read → result ≡ Outcome.ReadFault }
     ensures no_memory { result ≡ Outcome.NoMemory → fault ≡ Fault.NoMemory }
     ensures write_fault { result ≡ Outcome.WriteFault → writer.new.failures ≡ 1 }
     ensures writes { result ≢ Outcome.WriteFault → writer.new.failures ≡ 0 }
     ensures flushed { result ≢ Outcome.WriteFault → writer.new.unflushed ≡ false }
 {
-    if fault == Fault::Write {
-        return Outcome::WriteFault;
-    }
-    let Ok(()) = writer.flush() else {
-        return Outcome::WriteFault;
-    };
     match fault {
         Fault::Read => Outcome::ReadFault,
-        _ => Outcome::NoMemory,
+        Fault::Write => Outcome::WriteFault,
+        Fault::NoMemory => match writer.flush() {
+            Ok(()) => Outcome::NoMemory,
+            Err(_) => Outcome::WriteFault,
+        },
     }
 }

@@ -1,4 +1,4 @@
-//! Texts about what came from outside, of which no byte is to be obeyed by a terminal.
+//! Texts about what came from outside, in which no control character of ASCII is left for a terminal to obey.
 ghost use Rattle.std.specs.Prelude.{◌≡◌, ◌++◌, OnOk, is_err};
 ghost use Rattle.lab_main.specs.Texts.{echoed, quoted_wrong, told_plainly, visible, visible_byte};
 ghost use Rattle.memory.specs.Refusing.{Rises};
@@ -52,7 +52,7 @@ pub(crate) fn put_quoted_wrong(
     Ok(())
 }
 
-/// Appends bytes, each that a terminal would obey by its number, as `\x1b`.
+/// Appends bytes, each below 32, and 127, by its number, as `\x1b`.
 fn put_visible(text: &mut Text, bytes: &[u8], memory: &mut Memory) -> Result<(), AllocError>
     ensures put { OnOk result (text.new ≡ text.old ++ visible bytes.now) }
     ensures counted { Rises (is_err result) memory.old memory.new }

@@ -7,12 +7,8 @@ use Rattle.std.proofs.KnownBytes.{Consumes-kept, Consumes-nil, Consumes-trans}
 use Rattle.event_file.specs.Lines.{first_line, has_newline, is_newline}
 use Rattle.event_file.proofs.LineLemmas.{first_line-no_newline, has_newline-append, newline_at, take-first_line}
 use Rattle.program_ends.specs.Reads.{HasRead}
-use Rattle.line_reader.specs.Given.{Consumed, Needed, Parted, Spent, TookLine}
+use Rattle.line_reader.specs.Given.{Needed, Parted, Spent, TookLine}
 use Rattle.line_reader.specs.declared.reader.TheConstants.{READ_ROOM}
-
--- before a read all that is left is behind a line without a byte
-pub Parted-none : (a : Option (List ℕ)) (old : List ℕ) → Parted a a old [] old
-Parted-none a old = record { read = []; consumes = Consumes-nil a; parts = append-nil old; whole = refl }
 
 both_lack : (xs ys : List ℕ) → has_newline xs ≡ false → has_newline ys ≡ false → has_newline (xs ++ ys) ≡ false
 both_lack xs ys p q = has_newline-append xs ys ∙ ap (λ t. t || has_newline ys) p ∙ q
@@ -61,9 +57,6 @@ Parted-more {a} {b} {c} {old} {line} new p consumes = record {
 pub Parted-kept : {a b c : Option (List ℕ)} {old line behind : List ℕ} → Parted a b old line behind → Keeps b c → Parted a c old line behind
 Parted-kept {a} {b} {c} p keeps = record { read = p.read; consumes = Consumes-kept a b c p.read p.consumes keeps; parts = p.parts; whole = p.whole }
 
-pub Consumed-of : {a b : Option (List ℕ)} {old line behind : List ℕ} → Parted a b old line behind → Consumed a b
-Consumed-of p = record { read = p.read; consumes = p.consumes }
-
 -- a read is needed where all that has come is of the line
 pub Needed-read : {a b c : Option (List ℕ)} {old line : List ℕ} (new : List ℕ) → Parted a b old line [] → Consumes b c new → length new ≤ READ_ROOM
     → Needed a c old
@@ -92,9 +85,6 @@ HasRead-one {n} {a} {b} {c} new p consumes some = record {
 -- all reads of a call were made
 pub HasRead-last : {a b : Option (List ℕ)} (n : ℕ) → 2 ^ 64 - 1 ≤ n → n ≤ 2 ^ 64 - 1 → HasRead n a b → Spent a b
 HasRead-last {a} {b} n low high p = record { read = p.read; consumes = p.consumes; many = omega (arith, p.many, low) }
-
-pub HasRead-none : (a : Option (List ℕ)) → HasRead 0 a a
-HasRead-none a = record { read = []; consumes = Consumes-nil a; many = omega arith }
 
 -- ---- what stands in a chunk from a place on
 
@@ -132,10 +122,6 @@ line_cut chunk bytes at end place is found =
 
 pub line_uncut : (bytes : List ℕ) → position is_newline bytes ≡ None → has_newline bytes ≡ false
 line_uncut bytes none = (newline_at bytes None (sym none)).0
-
--- what stands ahead is of one read
-pub is_of_chunk : (chunk : List ℕ) (at end : ℕ) → end ≤ READ_ROOM → length (take (end - at) (drop at chunk)) ≤ READ_ROOM
-is_of_chunk chunk at end within = omega (arith, within, length-take (end - at) (drop at chunk))
 
 pub nothing_ahead : (chunk : List ℕ) (end : ℕ) → take (end - end) (drop end chunk) ≡ []
 nothing_ahead chunk end = let none : end - end ≡ 0 = omega arith in ap (λ n. take n (drop end chunk)) none

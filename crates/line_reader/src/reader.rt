@@ -1,5 +1,5 @@
 //! A reader's bytes, cut into lines.
-ghost use Rattle.std.specs.Prelude.{◌≡◌, ◌≢◌, ◌≤◌, ◌⊎◌, ◌∷◌, [], Ok, Err, IfErr, IfOk, OnOk, is_err, length, position};
+ghost use Rattle.std.specs.Prelude.{◌≡◌, ◌≢◌, ◌≤◌, ◌⊎◌, ◌∷◌, [], Ok, Err, IfErr, IfOk, OnOk, false, is_err, length, position};
 ghost use Rattle.std.specs.Io.KnownBytes.{Consumes, IsAtEnd, Keeps};
 ghost use Rattle.event_file.specs.Lines.{is_newline};
 ghost use Rattle.line_reader.specs.Given.{Begun, Consumed, Needed, Parted, Spent, TookLine, wants_memory};
@@ -90,6 +90,8 @@ impl LineReader {
         ensures read_room { READ_ROOM ≡ 4096 }
         ensures keeps { Keeps (W.contents writer.old.inner) (W.contents writer.new.inner) }
         ensures prompt { reader.new.early_reads ≡ reader.old.early_reads }
+        ensures flushed { (reader.new ≡ reader.old) ⊎ (writer.new.unflushed ≡ false) }
+        ensures fault_flushed { result ≡ Err Fault.Read → writer.new.unflushed ≡ false }
         ensures read_fault { result ≡ Err Fault.Read → (reader.new.failures ≡ 1)
             ⊎ Spent (R.remaining reader.old.inner) (R.remaining reader.new.inner) }
         ensures reads { result ≢ Err Fault.Read → reader.new.failures ≡ 0 }
@@ -152,6 +154,9 @@ impl LineReader {
         ensures stands { IfErr result (λ _. self.new ≡ []) }
         ensures keeps { Keeps (W.contents writer.old.inner) (W.contents writer.new.inner) }
         ensures prompt { reader.new.early_reads ≡ reader.old.early_reads }
+        ensures flushed { result ≢ Err Fault.Write → writer.new.unflushed ≡ false }
+        ensures still_flushed { writer.old.unflushed ≡ false → writer.new.unflushed ≡ false }
+        ensures unread { result ≡ Err Fault.Write → reader.new ≡ reader.old }
         ensures read_fault { result ≡ Err Fault.Read → reader.new.failures ≡ 1 }
         ensures reads { result ≢ Err Fault.Read → reader.new.failures ≡ 0 }
         ensures write_fault { result ≡ Err Fault.Write → writer.new.failures ≡ 1 }

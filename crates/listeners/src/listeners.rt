@@ -166,13 +166,8 @@ impl Listeners {
         ensures none { OnErr result (messages_of id self.old ≡ None) }
         ensures kept { OnErr result (self.new ≡ self.old) }
     {
-        match place_of(&self.sockets, id) {
-            Some(at) => {
-                let socket = &mut self.sockets[at];
-                Ok(socket.take(room))
-            }
-            None => Err(Errno::EBADF),
-        }
+        self.move_to(id, &mut room.queue)?;
+        Ok(room.queue.as_bytes())
     }
 
     /// Moves the messages that wait for a socket into `queue`, whose own are lost, and leaves none; or EBADF where none

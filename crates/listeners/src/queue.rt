@@ -3,7 +3,6 @@ ghost use Rattle.listeners.specs.Queue.{cut, joined, IsMessage, AreMessages};
 ghost use Rattle.memory.specs.Refusing.{Rises};
 
 use crate::limits::MOST_QUEUED;
-use crate::room::Room;
 use memory::Memory;
 use std::alloc::{AllocError, Global};
 use std::marker::Model;
@@ -51,15 +50,6 @@ impl Queue {
         ensures { self.new ≡ self.old ++ message.now ∷ [] }
     {
         self.bytes.extend_from_slice(message).unwrap();
-    }
-
-    /// Takes all messages into the room, from where their bytes are lent: whole messages, one after another.
-    pub(crate) fn take<'a>(&mut self, room: &'a mut Room) -> &'a [u8]
-        ensures whole { AreMessages result.now }
-        ensures messages { cut result.now ≡ self.old }
-        ensures empty { self.new ≡ [] }
-    {
-        room.exchange(&mut self.bytes)
     }
 
     /// The bytes of its messages: whole messages, one after another.

@@ -1,12 +1,11 @@
 ghost use Rattle.std.specs.Prelude.{◌≡◌, [], map};
 ghost use Rattle.std.specs.List.{list_any, position};
 ghost use Rattle.listeners.specs.Open.{seen};
-ghost use Rattle.listeners.specs.Queue.{cut, IsMessage, AreMessages};
+ghost use Rattle.listeners.specs.Queue.{IsMessage};
 ghost use Rattle.listeners.specs.Sockets.{opened, emptied, has_id, hears, after_delivery, delivered as delivered_to};
 ghost use Rattle.listeners.specs.Told.{told_of};
 
 use crate::queue::Queue;
-use crate::room::Room;
 use crate::told::SocketTold;
 use sock_addrs::Name;
 
@@ -90,15 +89,6 @@ impl Socket {
         } else {
             self.lost = self.lost.saturating_add(1);
         }
-    }
-
-    /// Takes its messages into the room, from where their bytes are lent: whole messages, one after another.
-    pub(crate) fn take<'a>(&mut self, room: &'a mut Room) -> &'a [u8]
-        ensures whole { AreMessages result.now }
-        ensures messages { cut result.now ≡ self.old.queue }
-        ensures empty { seen self.new ≡ emptied (seen self.old) }
-    {
-        self.queue.take(room)
     }
 
     /// Moves its messages into a queue, whose own are lost.

@@ -1,5 +1,5 @@
 -- Which bytes a text has: digits, hexadecimal digits, and such as are printed.
-use Rattle.std.proofs.Common.{◌≡◌, ◌∙◌, ℕ, suc, ◌<◌, ◌≤◌, ◌/◌, ◌%◌, ◌^◌, Bool, true, ◌&&◌, ◌||◌, nat_le, List, [], ◌∷◌, ◌++◌, refl, arith, take, decimal}
+use Rattle.std.proofs.Common.{◌≡◌, ◌∙◌, ℕ, suc, ◌<◌, ◌/◌, ◌%◌, ◌^◌, Bool, true, ◌&&◌, ◌||◌, nat_le, List, [], ◌∷◌, ◌++◌, refl, arith, take, decimal}
 use Rattle.std.specs.Prelude.{slice_index, zero}
 use Rattle.std.specs.List.{list_all}
 use Rattle.std.proofs.lemmas.Bool.{and_from, and_parts}
@@ -49,9 +49,6 @@ hex_parted a b x y p q c d e =
 
 abbrev pub is_printed : ℕ → Bool
 is_printed b = nat_le 32 b && nat_le b 126
-
-printed_between : (low high : ℕ) → 32 ≤ low → high ≤ 126 → (b : ℕ) → (nat_le low b && nat_le b high) ≡ true → is_printed b ≡ true
-printed_between low high l h b e = grind (arith, e)
 
 digit_printed : (b : ℕ) → is_digit b ≡ true → is_printed b ≡ true
 digit_printed b e = grind (arith, e)

@@ -160,9 +160,6 @@ abbrev pub AreSame : List Row → List ℕ → List ℕ → Type 0
 AreSame [] m n = ⊤
 AreSame (r ∷ rs) m n = (number_at r.offset r.width m ≡ number_at r.offset r.width n) × AreSame rs m n
 
-is_absent : Row → ℕ → Bool
-is_absent r n = r.is_optional && n == 0
-
 -- a name stands at the front of its row
 name_first : (r : Row) (n : ℕ) (x : List ℕ) → nat_le 5 (length r.name) ≡ true → take 5 (word r n ++ x) ≡ take 5 r.name
 unfolding word

@@ -1,12 +1,12 @@
 -- What callers need of the map of rooms.
 --     get-put_room, get-put_links, get-removed      what a number says after each change
---     put_links-is, put_value-is                    a room that is written is that room with one thing changed
+--     put_links-is                                  a room whose links are written is that room with these
 --     Has-lodged, Has-put, Has-written, Has-removed      a room that is still there
 use Rattle.std.proofs.Common.{◌≡◌, ℕ, ◌==◌, Bool, true, false, if◌then◌else◌, Option, Some, None, refl, sym, ap, ◌∙◌}
 use Rattle.std.proofs.lemmas.Bool.{eqb-true, ne_eqb}
 use Rattle.std.specs.Ordering.{nat_cmp}
 use Rattle.std.specs.FinMap.{FinMap, get, remove}
-use Rattle.radix_nodes.specs.Rooms.{Seen, seen, Has, put_room, put_links, put_value}
+use Rattle.radix_nodes.specs.Rooms.{Seen, seen, Has, put_room, put_links}
 use Rattle.radix_nodes.specs.declared.id.Id.{Id}
 use Rattle.radix_nodes.specs.declared.links.Links.{Links}
 use Rattle.radix_nodes.proofs.Cells.{get_put, get_gone, same_number}
@@ -23,15 +23,8 @@ module _ {V : Type 0} where
   links_put m i links None = m
   links_put m i links (Some s) = put_room m i s.value links
 
-  abbrev value_put : FinMap nat_cmp (Seen V) → Id → V → Option (Seen V) → FinMap nat_cmp (Seen V)
-  value_put m i value None = m
-  value_put m i value (Some s) = put_room m i value s.links
-
   pub put_links-is : (m : FinMap nat_cmp (Seen V)) (i : Id) (links : Links) (h : Has m i) → put_links m i links ≡ put_room m i h.room.value links
   put_links-is m i links h = ap (links_put m i links) h.at
-
-  pub put_value-is : (m : FinMap nat_cmp (Seen V)) (i : Id) (value : V) (h : Has m i) → put_value m i value ≡ put_room m i value h.room.links
-  put_value-is m i value h = ap (value_put m i value) h.at
 
   pub get-put_room : (m : FinMap nat_cmp (Seen V)) (i : Id) (value : V) (links : Links) (n : ℕ)
       → get (put_room m i value links) n ≡ (if n == (number_of i) then Some (seen i.block value links) else get m n)

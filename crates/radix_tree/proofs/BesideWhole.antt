@@ -7,7 +7,7 @@ use Rattle.radix_tree.proofs.Beside.{stays, zero_forked, one_forked, not_new, no
 use Rattle.radix_tree.proofs.Words.{◌≡◌, ℕ, ◌+◌, ◌≤◌, ◌⊎◌, ◌==◌, ◌||◌, Bool, true, false, if◌then◌else◌, List, [], ◌∷◌, Option, Some, None, refl, sym, ap, ◌∙◌}
 use Rattle.radix_tree.proofs.Words.{inl, inr, arith, eq-eqb, ne_eqb, cases_eq, append-nil, is_some, Has, Id, Node, LeafOf, BitOf, Placed, Tree, leaf, fork}
 use Rattle.radix_tree.proofs.Words.{bit_at, IsIn, routes_of, LeafPart, Heads, Masks, Bits, Part, leaves_in, bits_in, heads_in, masks_in, Beneath, Way, one_if}
-use Rattle.radix_tree.proofs.Words.{leaves_at, forks_at, HasHome, HaveOneFork, with_head, forked_tree, Gains, IsPlace, IsSpot, IsBeside, Exchanged, IsMarked}
+use Rattle.radix_tree.proofs.Words.{leaves_at, forks_at, HasHome, HaveOneFork, with_head, forked_tree, Gains, IsPlace, IsSpot, IsBeside, Exchanged}
 use Rattle.radix_tree.proofs.Words.{IsMaskList, MarkedIn, MarkedLists, HasRoomMore, KeepsLeaves, KeepsBits, KeepsMasks, lift_leaf, leaf_above, Lodged}
 use Rattle.radix_tree.proofs.Words.{true≢false, number_of, subst, IsTree, LedTo, IsWhole, shown, IsNew, Differs, IsWholeBut, has_key, nobody_late, nobody_out}
 
@@ -150,9 +150,6 @@ module _ {V : Type 0} where
 
       pub same_marks : (n : ℕ) → is_some (masks_in new n) ≡ is_some (masks_in m n)
       same_marks n = ap is_some (c.masks n) ∙ c.cut.marks n
-
-      pub new_unmarked : IsMarked (masks_in new) x → ⊥
-      new_unmarked marked = true≢false (search (arith, same_marks))
 
       pub room_more : HasRoomMore m new (number_of x.room)
       room_more n = search (arith, cases_eq, eq-eqb, other_leaf, ne_eqb)

@@ -8,9 +8,6 @@ use Rattle.room_index.specs.Filed.{Filed}
 use Rattle.room_index.specs.declared.places.Places.{Places}
 
 module _ {P : Type 0} where
-  pub same_self : (p : Places P) → HaveSame p p
-  same_self p = record { kept = λ e at. at; had = λ e at. at }
-
   pub same_then : (p q r : Places P) → HaveSame p q → HaveSame q r → HaveSame p r
   same_then p q r one two = record { kept = λ e at. two.kept e (one.kept e at); had = λ e at. one.had e (two.had e at) }
 
@@ -112,31 +109,6 @@ module _ {P : Type 0} where
         | inl a ↦ inl a.1
         | inr a ↦ inr (at.0, a.1)
       ];
-    }
-
-  -- an entry more than in a table that has the same as another
-  pub adds_then : (p q r : Places P) (own : Filed) → HaveSame p q → Adds q r own → Adds p r own
-  adds_then p q r own same adds = record {
-    own = adds.own;
-    kept = λ e at. adds.kept e (same.kept e at);
-    had = λ e at. elim (adds.had e at) [
-      | inl is ↦ inl is
-      | inr was ↦ inr (same.had e was)
-    ];
-  }
-
-  -- a place is freed
-  module _ (old new : Places P) (may : ℕ → ℕ → Type 0) (are : AreFiled old may) (place : ℕ) (frees : Changes old new place None) where
-    pub free_cases : (n : ℕ) (e : Filed) → stands new n ≡ Some e → (n ≡ place → ⊥) × (stands old n ≡ Some e)
-    free_cases n e at =
-        let other : n ≡ place → ⊥ = λ same. none-some e (sym (ap (stands new) same ∙ here old new place None frees) ∙ at) in
-        (other, sym (there old new place None frees n other) ∙ at)
-
-    pub filed_freed : AreFiled new may
-    filed_freed = record {
-      places = λ n e at. are.places n e (free_cases n e at).1;
-      tags = λ n e at. let c = free_cases n e at in tag_there old new place None frees n c.0 ∙ are.tags n e c.1;
-      once = λ n m e f at to same. are.once n m e f (free_cases n e at).1 (free_cases m f to).1 same;
     }
 
   -- ---- an entry moves to a place that was free

@@ -138,10 +138,6 @@ module _ {P : Type 0} where
         | inr past ↦ inl past
       ]
 
-  -- beside all
-  pub told_short : (r : Ranges P) (of : ℕ) → (of % 64 ≤ 33 → HasRank r.short (of % 64)) → IsTold r of
-  told_short r of told fits address within masks = inr (inl (told fits))
-
   -- of more, what was told is told
   pub told_more : (old new : Ranges P) (of : ℕ) → TellsMore old new → IsTold old of → IsTold new of
   told_more old new of more told fits address within masks =

@@ -112,7 +112,7 @@ found_is w i address facts (Some a) known =
     ap take (same_Some (facts_of a) facts known)
 
 module _ (w : World) (name : List ℕ) (address : ℕ) (i : IfaRef) (facts : Facts) where
-  taking : (route : Option (Entry Route)) → find_addr name address w.interfaces ≡ Ok i
+  pub taking : (route : Option (Entry Route)) → find_addr name address w.interfaces ≡ Ok i
       → option_map facts_of (address_of i w.interfaces) ≡ Some facts → withdrawn i address facts w.table ≡ route
       → effect w (RemoveAddress name address) ≡ take_route w i address facts route
   unfolding effect

@@ -21,7 +21,7 @@ use Rattle.route_ops.specs.Redirecting.{redirect}
 use Rattle.route_ops.specs.Refusing.{◌>>=◌}
 use Rattle.table_dump.specs.Dumps.{fitting, shown_of, total_of}
 use Rattle.route_core.specs.Commands.{Command}
-use Rattle.route_core.specs.Packets.{choice_of, fate_of, rejection_of}
+use Rattle.route_core.specs.Packets.{choice_of, rejection_of}
 use Rattle.route_core.specs.RefusalLaws.{LeftOutForRoom}
 use Rattle.route_core.specs.Requests.{outcome_of}
 use Rattle.route_core.specs.Step.{Effect, bring_route, dump_effect, effect, either_way, lost_effect, or_refused, packet_by, read_effect, refused, refused_request, refused_write, remove_address_effect, remove_found, take_route, unless_errno, unless_refused, write_effect}

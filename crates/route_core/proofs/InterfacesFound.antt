@@ -21,12 +21,14 @@ use Rattle.if_addrs.proofs.Numbers.{found_in, found_once, next_free, none_used, 
 use Rattle.radix_tree.specs.declared.entry.Entry.{Entry}
 use Rattle.radix_tree.proofs.ListLemmas.{all_weaker}
 use Rattle.route_entries.specs.declared.route.Route.{Route}
-use Rattle.route_ops.specs.Addressing.{address_entry}
+use Rattle.route_ops.specs.Addressing.{address_entry, withdrawn}
 use Rattle.route_ops.specs.Tables.{IsRouteOf}
-use Rattle.route_core.specs.Messages.{address_added, route_added}
+use Rattle.route_core.specs.Messages.{address_added, address_removed, route_added, route_deleted}
+use Rattle.route_core.specs.Step.{Effect, take_route}
 use Rattle.route_core.specs.Telling.{Told, told}
 use Rattle.route_core.specs.World.{World}
-use Rattle.route_core.specs.Worlds.{FoundAddressIsThere, Has, IsOn, IsWorld, NewAddressShowsItsInterface, RoutesHaveInterfaces, Shows}
+use Rattle.route_core.specs.Worlds.{FoundAddressIsThere, GoneAddressShowsItsInterface, Has, IsOn, IsWorld, NewAddressShowsItsInterface, RoutesHaveInterfaces, Shows, told_going}
+use Rattle.route_core.proofs.Effecting.{taking}
 use Rattle.route_core.proofs.WorldsKept.{has_new}
 
 -- ---- an element at its place
@@ -267,3 +269,29 @@ module _ (w : World) (name : List ℕ) (address : ℕ) (ifa : IfaRef) (h : IsWor
 
 pub found_address_is_there : FoundAddressIsThere
 found_address_is_there w name address ifa h is = there_by w name address ifa h (named name w.interfaces) refl is
+
+-- ---- an address that goes
+
+takes_route : (w : World) (ifa : IfaRef) (address : ℕ) (facts : Facts) (i : Interface) (r : Option (Entry Route))
+    → interface_numbered (interface_of ifa w.interfaces) w.interfaces ≡ Some i
+    → (take_route w ifa address facts r).told ≡ told_going (interface_of ifa w.interfaces) i address facts r
+takes_route w ifa address facts i None on = refl
+takes_route w ifa address facts i (Some r) on =
+    let index = interface_of ifa w.interfaces in
+    let text = λ (o : Option Interface). unwrap_or (option_map (link_text index) o) [] in
+    ap (λ (o : Option Interface).
+    told (route_deleted index r) AF_INET None ∷ told (address_removed index (text o) address facts) AF_INET None ∷ [])
+    on
+
+-- the interface of its name has the number that is told
+numbered_as : (w : World) (name : List ℕ) (address : ℕ) (ifa : IfaRef) (i : Interface) → IsThere w name address ifa
+    → named name w.interfaces ≡ Some i → interface_numbered (interface_of ifa w.interfaces) w.interfaces ≡ Some i
+numbered_as w name address ifa i (a, at, of, j, first, on) is = on ∙ sym first ∙ is
+
+pub gone_address_shows_its_interface : GoneAddressShowsItsInterface
+gone_address_shows_its_interface w name address ifa a i h found at is =
+    let route = withdrawn ifa address (facts_of a) w.table in
+    let there = found_address_is_there w name address ifa h found in
+    ap (λ (e : Effect). e.told)
+    (taking w name address ifa (facts_of a) route found (ap (option_map facts_of) at) refl)
+    ∙ takes_route w ifa address (facts_of a) i route (numbered_as w name address ifa i there is)

@@ -30,7 +30,6 @@ use Rattle.route_ops.specs.Looks.{Look, look, unless_there}
 use Rattle.route_ops.specs.RedirectLaws.{IsReason}
 use Rattle.route_ops.specs.Losses.{losing}
 use Rattle.route_ops.specs.Redirecting.{redirect}
-use Rattle.route_ops.specs.Upshot.{Upshot}
 use Rattle.route_ops.specs.declared.notice.Notice.{Notice}
 use Rattle.route_ops.specs.declared.adding.NewRoute.{NewRoute}
 use Rattle.route_ops.specs.declared.changing.Change.{Change as Changing}

@@ -102,19 +102,12 @@ refused_begins errno pid m is =
 done_begins : (pid : ℕ) (m : List ℕ) → IsEchoed m → BeginsAs m (done_reply pid m)
 done_begins pid m is = written (field FLAGS_OFFSET 4 _) m _ is (pid_written pid m is) (lit≤ tt) (lit≤ tt)
 
--- the replies that echo a message are messages, and as long
+-- the replies that echo a message are messages
 pub refused_is_message : (errno : Errno) (pid : ℕ) (m reply : List ℕ) → IsEchoed m → reply ≡ refused_reply errno pid m
     → IsMessage reply
 refused_is_message errno pid m reply is e =
     rw e (still_message m (refused_reply errno pid m) (refused_begins errno pid m is) (echoed_is_message m is))
 
-pub refused_as_long : (errno : Errno) (pid : ℕ) (m : List ℕ) → IsEchoed m
-    → length (refused_reply errno pid m) ≡ length m
-refused_as_long errno pid m is = (refused_begins errno pid m is).size
-
 pub done_is_message : (pid : ℕ) (m reply : List ℕ) → IsEchoed m → reply ≡ done_reply pid m → IsMessage reply
 done_is_message pid m reply is e =
     rw e (still_message m (done_reply pid m) (done_begins pid m is) (echoed_is_message m is))
-
-pub done_as_long : (pid : ℕ) (m : List ℕ) → IsEchoed m → length (done_reply pid m) ≡ length m
-done_as_long pid m is = (done_begins pid m is).size

@@ -40,7 +40,7 @@ use Rattle.route_ops.proofs.TablesStay.{adding_stays, address_route_is_of, chang
 use Rattle.route_core.specs.Commands.{Command}
 use Rattle.route_core.specs.Effects.{request_effect}
 use Rattle.route_core.specs.Requests.{Outcome, adding_outcome, delete_outcome, done_reply, get_outcome, lock_outcome, outcome_of}
-use Rattle.route_core.specs.Step.{Effect, Stepped, announced, bring_route, done, effect, lost_effect, on_table, packet_by, read_effect, refused, remove_address_effect, remove_found, take_route, unless_refused, world_after, write_effect}
+use Rattle.route_core.specs.Step.{Effect, Stepped, announced, bring_route, done, effect, lost_effect, packet_by, read_effect, refused, remove_address_effect, remove_found, take_route, unless_refused, world_after, write_effect}
 use Rattle.route_core.specs.Telling.{Told, delivered_all}
 use Rattle.route_core.specs.World.{World}
 use Rattle.route_core.specs.Worlds.{AreOpenOnce, EmptyIsWorld, IsInRange, IsWorld, StepsKeepWorlds}

@@ -1,5 +1,5 @@
 -- One step of the world for each command: what it does, and the world and the answer after it.
-use Rattle.std.specs.Prelude.{◌≡◌, ◌⊎◌, ◌+◌, ◌*◌, ◌-◌, ◌/◌, ◌^◌, ◌&&◌, ◌<◌, ℕ, Bool, true, false, not, is_some, is_none, if◌then◌else◌, min, List, [], ◌∷◌, ◌++◌, map, Option, Some, None, Result, Ok, Err, ok_or, unwrap_or}
+use Rattle.std.specs.Prelude.{◌≡◌, ◌⊎◌, ◌+◌, ◌*◌, ◌-◌, ◌/◌, ◌^◌, ◌&&◌, ◌<◌, ℕ, Bool, true, false, is_some, is_none, if◌then◌else◌, min, List, [], ◌∷◌, ◌++◌, map, Option, Some, None, Result, Ok, Err, ok_or, unwrap_or}
 use Rattle.std.specs.Option.{option_map_or}
 use Rattle.sock_addrs.specs.Errno.{is_enobufs}
 use Rattle.sock_addrs.specs.declared.errno.Errno.{Errno}

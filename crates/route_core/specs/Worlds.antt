@@ -12,15 +12,15 @@ use Rattle.if_addrs.specs.declared.reference.IfaRef.TheVariants as ifa
 use Rattle.listeners.specs.Sockets.{AreBounded, Socket}
 use Rattle.radix_tree.specs.declared.entry.Entry.{Entry}
 use Rattle.route_entries.specs.declared.route.Route.{Route}
-use Rattle.route_ops.specs.Addressing.{address_entry}
+use Rattle.route_ops.specs.Addressing.{address_entry, withdrawn}
 use Rattle.route_ops.specs.Tables.{IsTableOf}
 use Rattle.route_core.specs.Commands.{Command}
-use Rattle.route_core.specs.Messages.{address_added, route_added}
-use Rattle.route_core.specs.Step.{Steps, announced}
-use Rattle.route_core.specs.Telling.{told}
+use Rattle.route_core.specs.Messages.{address_added, address_removed, route_added, route_deleted}
+use Rattle.route_core.specs.Step.{Steps, announced, effect}
+use Rattle.route_core.specs.Telling.{Told, told}
 use Rattle.route_core.specs.World.{World, empty_world}
 use Rattle.route_core.specs.declared.answer.Answer.{Answer}
-use Rattle.route_core.specs.declared.command.Command.TheVariants.{AddAddress, Losing, Packet, Redirect, Write}
+use Rattle.route_core.specs.declared.command.Command.TheVariants.{AddAddress, Losing, Packet, Redirect, RemoveAddress, Write}
 
 -- ---- worlds
 
@@ -87,10 +87,27 @@ NewAddressShowsItsInterface = (w : World) (name : List ℕ) (address prefix : �
     × (interface_numbered index w.interfaces ≡ Some i)
     × Shows address (facts_of a) (address_entry (reference a) address (facts_of a)) interfaces index i
 
--- an address that is found on an interface stands there, and is shown with that interface when it goes
+-- an address that is found on an interface stands there, and its number is told of that interface
 abbrev pub FoundAddressIsThere : Type 0
 FoundAddressIsThere = (w : World) (name : List ℕ) (address : ℕ) (ifa : IfaRef) → IsWorld w
     → find_addr name address w.interfaces ≡ Ok ifa
     → (a : Address) × (address_of ifa w.interfaces ≡ Some a) × (a.address ≡ address)
     × (i : Interface) × (named name w.interfaces ≡ Some i)
     × (interface_numbered (interface_of ifa w.interfaces) w.interfaces ≡ Some i)
+
+-- of an address that goes nothing is told where it takes no route away; and else that the route is deleted, and then
+-- that the address goes, with this interface's number and link-layer address
+abbrev pub told_going : ℕ → Interface → ℕ → Facts → Option (Entry Route) → List Told
+told_going index i address facts None = []
+told_going index i address facts (Some r) =
+    told (route_deleted index r) AF_INET None
+    ∷ told (address_removed index (link_text index i) address facts) AF_INET None
+    ∷ []
+
+-- an address that goes is shown with the interface that it was found on, and that interface's number
+abbrev pub GoneAddressShowsItsInterface : Type 0
+GoneAddressShowsItsInterface = (w : World) (name : List ℕ) (address : ℕ) (ifa : IfaRef) (a : Address) (i : Interface)
+    → IsWorld w → find_addr name address w.interfaces ≡ Ok ifa → address_of ifa w.interfaces ≡ Some a
+    → named name w.interfaces ≡ Some i
+    → (effect w (RemoveAddress name address)).told
+    ≡ told_going (interface_of ifa w.interfaces) i address (facts_of a) (withdrawn ifa address (facts_of a) w.table)

@@ -8,7 +8,7 @@ ghost use Rattle.route_core.specs.Few.{EffectsAreFew, StepsBringFew};
 ghost use Rattle.route_core.specs.Queues.{KeptIsOfWhatItMet, LossesDisturbNobody, OpensWithNothing, WaitsIsOfWhatItHeard};
 ghost use Rattle.route_core.specs.RefusalLaws.{EffectsHaveMemory, LeftOutForRoom, NoMemoryKeepsAll, RefusalKeepsInterfaces, RefusalKeepsRoutes, RefusalKeepsSockets};
 ghost use Rattle.route_core.specs.Undisturbed.{OthersAreNotNeeded, OthersDoNotDisturb};
-ghost use Rattle.route_core.specs.Worlds.{EmptyIsWorld, FoundAddressIsThere, NewAddressShowsItsInterface, RoutesHaveInterfaces, StepsKeepWorlds};
+ghost use Rattle.route_core.specs.Worlds.{EmptyIsWorld, FoundAddressIsThere, GoneAddressShowsItsInterface, NewAddressShowsItsInterface, RoutesHaveInterfaces, StepsKeepWorlds};
 
 /// A refused command leaves every route as it was, but a packet, which clones and counts before its route refuses it.
 pub fn refusal_keeps_routes()
@@ -70,9 +70,15 @@ pub fn new_address_shows_its_interface()
     ensures { NewAddressShowsItsInterface }
 {}
 
-/// An address that is found on an interface stands there, and is shown with that interface when it goes.
+/// An address that is found on an interface stands there, and its number is told of that interface.
 pub fn found_address_is_there()
     ensures { FoundAddressIsThere }
+{}
+
+/// Of an address that goes nothing is told where it takes no route away; and else that the route is deleted, and then
+/// that the address goes, with the number and the link-layer address of the interface that it was found on.
+pub fn gone_address_shows_its_interface()
+    ensures { GoneAddressShowsItsInterface }
 {}
 
 /// One step puts at most two routes into the table that were not there, and tells at most two messages.

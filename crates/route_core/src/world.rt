@@ -143,10 +143,13 @@ impl World {
     /// is ENOBUFS exactly where memory was refused, which is counted.
     // It is inlined, so that the answer is made in the caller's place: to move it took 9 to 60 instructions a line.
     #[inline(always)]
+    #[tactic(auto, using(crate::proofs::FewBrought::messages_are_few))]
     pub fn answer_counted(&mut self, said: &Said<'_>, memory: &mut Memory) -> Answer<'static>
         requires { is_read said.now ≡ false }
         ensures step { Steps self.old said.now result self.new }
         ensures counted { Rises (lacks_memory result) memory.old memory.new }
+        ensures few_routes { brought self.old.table self.new.table ≤ 2 }
+        ensures few_messages { length (effect self.old said.now).told ≤ 2 }
     {
         match said {
             Command::Attach {

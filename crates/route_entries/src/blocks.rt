@@ -53,6 +53,7 @@ impl Blocks {
     pub fn take(&mut self, memory: &mut Memory) -> Result<Box<Route>, AllocError>
         ensures there { 1 ≤ self.old → IsOk result }
         ensures taken { self.new ≡ self.old - 1 }
+        ensures left { self.new ≤ 1 }
         ensures counted { Rises (is_err result) memory.old memory.new }
     {
         match self.kept() {
@@ -75,6 +76,7 @@ impl Blocks {
     fn kept(&mut self) -> Option<Box<Route>>
         ensures there { is_some result ≡ nat_lt 0 self.old }
         ensures taken { self.new ≡ self.old - 1 }
+        ensures left { self.new ≤ 1 }
     {
         match self.first.take() {
             Some(block) => Some(block),
@@ -84,7 +86,8 @@ impl Blocks {
 
     /// Keeps a block. Where there are two already, one of them is freed.
     pub fn keep(&mut self, block: Box<Route>)
-        ensures { self.new ≡ min (self.old + 1) 2 }
+        ensures kept { self.new ≡ min (self.old + 1) 2 }
+        ensures more { self.old ≤ self.new }
     {
         if self.first.is_none() {
             self.first = Some(block);
@@ -95,7 +98,8 @@ impl Blocks {
 
     /// Keeps all of these.
     pub fn keep_all(&mut self, others: Blocks)
-        ensures { self.new ≡ min (self.old + others) 2 }
+        ensures kept { self.new ≡ min (self.old + others) 2 }
+        ensures more { self.old ≤ self.new }
     {
         // A fact for the proof: there are two at most, by its fields.
         let _ = &self.first;

@@ -78,9 +78,6 @@ module _ (c : Change) (k : ℕ) (s : List ℕ) where
   pub first-fitted : slice_index (fitted c k s) 0 ≡ length_as c k s
   first-fitted = first-turned (c.swaps && not (is_mask k)) (sized (length_as c k s) s)
 
-  pub second-fitted : slice_index (fitted c k s) 1 ≡ slice_index (sized (length_as c k s) s) 1
-  second-fitted = second-turned (c.swaps && not (is_mask k)) (sized (length_as c k s) s)
-
   pub length-fitted : 1 ≤ length s → length (fitted c k s) ≡ max (length_as c k s) 1
   length-fitted there = length-turned (c.swaps && not (is_mask k)) (sized (length_as c k s) s) ∙ length-sized (length_as c k s) s there
 

@@ -52,6 +52,51 @@ addition_header = record (blank 1) { index = 1; flags = 0x101 }
 abbrev pub addition : List ℕ
 addition = words (0x00740301 ∷ 0x00010000 ∷ 0x00000101 ∷ 0x00000007 ∷ []) ++ replicate 60 0 ++ network_words
 
+-- and it is changed: no two fields of this header hold the same number, so each says by itself where it stands
+abbrev pub change_header : Header
+change_header = record {
+  kind = 3;
+  index = 2;
+  padding = 0x0b0c;
+  flags = 0x903;
+  addrs = 0;
+  pid = 100;
+  seq = 9;
+  errno = 17;
+  use_count = 300;
+  inits = 0xff;
+  metrics = record {
+    locks = 0x13;
+    mtu = 1500;
+    hopcount = 4;
+    expire = 0x2f0a1b00;
+    recvpipe = 0x2000;
+    sendpipe = 0x4000;
+    ssthresh = 0x1800;
+    rtt = 250000;
+    rttvar = 31250;
+    pksent = 12;
+  };
+}
+
+abbrev pub change : List ℕ
+change =
+    words (0x00740303 ∷ 0x00020b0c ∷ 0x00000903 ∷ 0x00000007 ∷ 0x00000064 ∷ 0x00000009 ∷ [])
+    ++ words (0x00000011 ∷ 0x0000012c ∷ 0x000000ff ∷ [])
+    ++ words (0x00000013 ∷ 0x000005dc ∷ 0x00000004 ∷ 0x2f0a1b00 ∷ 0x00002000 ∷ 0x00004000 ∷ 0x00001800 ∷ [])
+    ++ words (0x0003d090 ∷ 0x00007a12 ∷ 0x0000000c ∷ [])
+    ++ network_words
+
+abbrev pub change_parsed : Parsed
+change_parsed = record {
+  header = record change_header { addrs = 7 };
+  slots =
+      Some (record { start = 76; len = 16 })
+      ∷ Some (record { start = 92; len = 16 })
+      ∷ Some (record { start = 108; len = 5 })
+      ∷ replicate 5 None;
+}
+
 -- process 100 asked for it, and this is the reply
 abbrev pub answer_header : Header
 answer_header = record (blank 4) { flags = 0x141; pid = 100; seq = 1 }

@@ -1,7 +1,7 @@
 //! Laws of messages: each function does nothing, and its contract is the law.
 
 ghost use Rattle.std.specs.Prelude.{◌≡◌};
-ghost use Rattle.route_msgs.specs.Examples.{addition, addition_header, announcement, announcement_header, announcement_addresses, bare, bare_parsed, question, question_parsed, answer, answer_header, network_addresses, short, short_parsed};
+ghost use Rattle.route_msgs.specs.Examples.{addition, addition_header, announcement, announcement_header, announcement_addresses, bare, bare_parsed, change, change_header, change_parsed, question, question_parsed, answer, answer_header, network_addresses, short, short_parsed};
 ghost use Rattle.route_msgs.specs.Headers.{ifa_message, route_message};
 ghost use Rattle.route_msgs.specs.Patches.{ErrnoIsChanged, FlagsAreChanged, PidIsChanged};
 ghost use Rattle.route_msgs.specs.Slots.{ReadsMessage};
@@ -55,20 +55,22 @@ pub fn named_bits_are_addresses()
     ensures { NamedBitsAreAddresses }
 {}
 
-/// Messages that are written, worked out: an address is announced, its route is added, and a question for it is
-/// answered.
+/// Messages that are written, worked out: an address is announced, its route is added, then changed by a header of
+/// which no two fields are the same, and a question for it is answered.
 pub fn writing_by_example()
     ensures announcement { ifa_message announcement_header announcement_addresses ≡ announcement }
     ensures addition { route_message addition_header network_addresses ≡ addition }
+    ensures change { route_message change_header network_addresses ≡ change }
     ensures answer { route_message answer_header network_addresses ≡ answer }
 {}
 
 /// Messages that are read, worked out: a question; one that ends where its destination would begin, which then isn't
-/// there; and one whose destination has the length 0, which is then one byte.
+/// there; one whose destination has the length 0, which is then one byte; and that change.
 pub fn reading_by_example()
     ensures question { ReadsMessage question (Ok question_parsed) }
     ensures bare { ReadsMessage bare (Ok bare_parsed) }
     ensures short { ReadsMessage short (Ok short_parsed) }
+    ensures change { ReadsMessage change (Ok change_parsed) }
 {}
 
 /// The version of a message, by its number in <net/route.h>.

@@ -1,5 +1,5 @@
 //! The places for routes that a step may need.
-ghost use Rattle.std.specs.Prelude.{◌≡◌, ◌+◌, ◌<◌, ◌≤◌, ◌∷◌, length, min, is_err, IfOk, IsOk, OnOk, OnErr};
+ghost use Rattle.std.specs.Prelude.{◌≡◌, ◌+◌, ◌-◌, ◌<◌, ◌≤◌, [], ◌∷◌, length, min, is_err, IfOk, IsOk, OnOk, OnErr};
 ghost use Rattle.memory.specs.Refusing.{Rises};
 ghost use Rattle.radix_tree.specs.Table.{uses};
 ghost use Rattle.route_ops.specs.Spares.{FitsSpare};
@@ -52,6 +52,9 @@ impl Place {
         ensures ok { OnOk result (table.new ≡ record table.old { next = table.old.next + 1 }) }
         ensures number { IfOk result (λ place. (place ≡ table.old.next) × (uses place table.old.numbers ≡ 0)) }
         ensures err { OnErr result (table.new ≡ table.old) }
+        ensures taken { OnOk result (blocks.new ≡ blocks.old - 1) }
+        ensures left { OnOk result (blocks.new ≤ 1) }
+        ensures kept { OnErr result (blocks.old ≤ blocks.new) }
         ensures counted { Rises (is_err result) memory.old memory.new }
     {
         let block = blocks.take(memory)?;
@@ -68,7 +71,9 @@ impl Place {
     fn give_back(self, table: &mut Table<PackedRoute>, blocks: &mut Blocks)
         requires made { self < table.old.next }
         requires free { uses self table.old.numbers ≡ 0 }
-        ensures { table.new ≡ table.old }
+        ensures table { table.new ≡ table.old }
+        ensures kept { blocks.new ≡ min (blocks.old + 1) 2 }
+        ensures more { blocks.old ≤ blocks.new }
     {
         let Place { room, block } = self;
         table.give_back(room);
@@ -83,6 +88,10 @@ pub fn prepare(
     memory: &mut Memory,
 ) -> Result<Spare, AllocError>
     ensures two { IfOk result (λ spare. length spare ≡ 2) }
+    ensures made { IfOk result (λ spare. spare ≡ table.old.next ∷ (table.old.next + 1) ∷ []) }
+    ensures rooms { OnOk result (table.new.next ≡ table.old.next + 2) }
+    ensures taken { OnOk result (blocks.new ≡ blocks.old - 2) }
+    ensures kept { OnErr result (blocks.old ≤ blocks.new) }
     ensures fits { IfOk result (λ spare. FitsSpare table.new spare) }
     ensures entries { table.new.entries ≡ table.old.entries }
     ensures numbers { table.new.numbers ≡ table.old.numbers }
@@ -112,6 +121,9 @@ pub fn prepare_rooms(
 ) -> Result<Spare, AllocError>
     ensures rooms { IfOk result (λ spare. length spare ≡ min rooms 2) }
     ensures none_asked { rooms ≡ 0 → IsOk result }
+    ensures made { OnOk result (table.new.next ≡ table.old.next + min rooms 2) }
+    ensures taken { OnOk result (blocks.new ≡ blocks.old - min rooms 2) }
+    ensures kept { OnErr result (blocks.old ≤ blocks.new) }
     ensures fits { IfOk result (λ spare. FitsSpare table.new spare) }
     ensures entries { table.new.entries ≡ table.old.entries }
     ensures numbers { table.new.numbers ≡ table.old.numbers }
@@ -136,7 +148,9 @@ pub fn prepare_rooms(
 /// Gives back the places that are left, their rooms to the table, and the blocks that weren't needed.
 pub fn finish(table: &mut Table<PackedRoute>, blocks: &mut Blocks, spare: Spare)
     requires { FitsSpare table.old spare }
-    ensures { table.new ≡ table.old }
+    ensures table { table.new ≡ table.old }
+    ensures kept { min (blocks.old + length spare) 2 ≤ blocks.new }
+    ensures more { blocks.old ≤ blocks.new }
 {
     let Spare {
         first,

@@ -8,3 +8,4 @@ pub mod Searches
 pub mod Shapes
 pub mod Splits
 pub mod Trees
+pub mod Ways

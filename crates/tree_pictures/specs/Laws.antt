@@ -1,9 +1,10 @@
 -- What follows from the definitions of a list's tree and of the search in it.
-use Rattle.std.specs.Prelude.{◌≡◌, ℕ, List, ◌∷◌, map, option_map}
+use Rattle.std.specs.Prelude.{◌≡◌, ℕ, true, List, ◌∷◌, ◌++◌, map, option_map, Some}
 use Rattle.radix_tree.specs.Table.{IsTable, best_of}
 use Rattle.radix_tree.specs.Tree.{Tree as RoomTree, leaf as room_leaf, fork as room_fork, IsTree as IsRoomTree, routes_of as entries_of}
 use Rattle.radix_tree.specs.declared.entry.Entry.{Entry}
-use Rattle.tree_pictures.specs.Tree.{Tree, leaf, fork, routes_of, tree_of, found, IsTree, ListItsMasks}
+use Rattle.tree_pictures.specs.Steps.{try_line, way_text}
+use Rattle.tree_pictures.specs.Tree.{Tree, leaf, fork, routes_of, tree_of, covers, found, IsTree, ListItsMasks}
 use Rattle.tree_pictures.specs.declared.pair.Pair.{Pair}
 
 module _ {V : Type 0} where
@@ -43,3 +44,15 @@ TablesListTheirMasks V = (entries : List (Entry V)) → IsTable entries → List
 abbrev pub SearchFindsTheBest : (V : Type 0) → Type 0
 SearchFindsTheBest V = (address : ℕ) (entries : List (Entry V)) → IsTable entries
     → found 0 address (tree_of (pairs_of entries)) ≡ option_map pair_of (best_of address entries)
+
+-- something, and then this
+abbrev pub EndsBy : List ℕ → List ℕ → Type 0
+EndsBy last text = (front : List ℕ) × (text ≡ front ++ last)
+
+-- what is found agrees with the address, and the text of the way to it ends with the step at it
+abbrev pub EndsAt : ℕ → Pair → List ℕ → Type 0
+EndsAt address p text = (covers address p ≡ true) × EndsBy (try_line address p) text
+
+-- so do the steps in each tree in which a route is found
+abbrev pub WaysEndAtTheFound : Type 0
+WaysEndAtTheFound = (address : ℕ) (t : Tree) (p : Pair) → found 0 address t ≡ Some p → EndsAt address p (way_text 0 address t)

@@ -1,6 +1,6 @@
 //! Laws of trees and searches: each function does nothing, and its contract is the law.
 
-ghost use Rattle.tree_pictures.specs.Laws.{LeavesAreTheList, TablesHaveTrees, TreesAreUnique, TablesKeepThisTree, TablesListTheirMasks, SearchFindsTheBest};
+ghost use Rattle.tree_pictures.specs.Laws.{LeavesAreTheList, TablesHaveTrees, TreesAreUnique, TablesKeepThisTree, TablesListTheirMasks, SearchFindsTheBest, WaysEndAtTheFound};
 
 use radix_tree::laws::{best_is_greatest, found_is_member, members, table_order};
 
@@ -40,3 +40,8 @@ pub fn search_finds_the_best<V>()
     found_is_member::<V>();
     best_is_greatest::<V>();
 }
+
+/// A route that is found agrees with the address, and the text of the way to it ends with the step at that route.
+pub fn ways_end_at_the_found()
+    ensures { WaysEndAtTheFound }
+{}

@@ -14,7 +14,7 @@ returns-in-Err-tell_line-clause-ends g c =
     let few : length c.next_line.new.self ≤ READ_ROOM = search rules in
     Ends-front c.stop.result _
     (Front-line g.W.Write.contents c.next_line.new.writer c.tell_line.new.writer (g.W.Write.contents c.stop.new.writer.inner) c.in-Err-tell_line.fault c.deref.result.now c.next_line.new.self
-    c.tell_line.new.lab reached parted c.in-Err-tell_line.ensures.fault c.stop.ensures.keeps)
+    c.tell_line.new.lab reached parted few c.in-Err-tell_line.ensures.fault c.stop.ensures.keeps)
     (λ is. Lines-line g.W.Write.contents c.next_line.new.writer c.tell_line.new.writer (g.W.Write.contents c.stop.new.writer.inner) c.in-Err-tell_line.fault c.deref.result.now
     c.tell_line.new.lab reached (Left-parted parted (omega (arith, few))) c.in-Err-tell_line.ensures.fault (c.stop.ensures.no_memory is) c.stop.ensures.keeps)
     (λ is. not_read g.W.Write.contents _ _ _ _ _ _ c.in-Err-tell_line.fault c.in-Err-tell_line.ensures.fault (c.stop.ensures.read_fault is)) c.stop.ensures.read
@@ -78,13 +78,8 @@ returns-in-Err-clause-read_fault g c = λ is. elim (c.in-Err.ensures.read_fault 
 ]
 
 pub returns-in-Err-clause-unfailed_reads : goal.returns-in-Err-clause-unfailed_reads
-returns-in-Err-clause-unfailed_reads g c = λ not_read not_written. elim c.stop-in-Err.ensures.read [
-  | inl is ↦ absurd (not_read is)
-  | inr other ↦ elim other [
-    | inl is ↦ absurd (not_written is)
-    | inr is ↦ search (rules, c.stop-in-Err.ensures.no_memory is)
-  ]
-]
+returns-in-Err-clause-unfailed_reads g c = λ not_read. c.in-Err.ensures.reads
+    (λ is. not_read (c.stop-in-Err.ensures.fault_read (cc)))
 
 pub loop-turn-preserved : goal.loop-turn-preserved
 loop-turn-preserved g c =
@@ -103,7 +98,7 @@ loop-turn-preserved g c =
     }
 
 pub returns-in_default-flush-clause-ends : goal.returns-in_default-flush-clause-ends
-returns-in_default-flush-clause-ends g c = Front-now c.loop-turn.invariant.reached c.flush.ensures.bytes
+returns-in_default-flush-clause-ends g c = Front-now c.loop-turn.invariant.reached c.loop-turn.invariant.ahead c.flush.ensures.bytes
 
 pub returns-clause-ends : goal.returns-clause-ends
 returns-clause-ends g c = Ended-turns c.loop-turn.invariant.reached c.loop-turn-test.false c.flush.ensures.bytes

@@ -1,4 +1,4 @@
-use Rattle.std.proofs.Common.{◌≡◌, ◌⊎◌, [], inl}
+use Rattle.std.proofs.Common.{◌⊎◌, [], inl}
 use Rattle.std.specs.Prelude.{Result, Ok, Err, MatchResult}
 use Rattle.sock_addrs.specs.declared.errno.Errno.{Errno}
 use Rattle.route_core.specs.declared.outcomes.Done.{Done}

@@ -14,3 +14,7 @@ returns-clause-bare c = (refl, refl, refl, refl, refl)
 pub returns-clause-short : goal.returns-clause-short
 unfolding number_at offset_of
 returns-clause-short c = (refl, refl, refl, refl, refl)
+
+pub returns-clause-change : goal.returns-clause-change
+unfolding number_at offset_of
+returns-clause-change c = (refl, refl, refl, refl, refl)

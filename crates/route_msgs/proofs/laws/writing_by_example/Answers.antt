@@ -13,3 +13,7 @@ returns-clause-addition c = refl
 pub returns-clause-answer : goal.returns-clause-answer
 unfolding with_field
 returns-clause-answer c = refl
+
+pub returns-clause-change : goal.returns-clause-change
+unfolding with_field
+returns-clause-change c = refl

@@ -58,6 +58,7 @@ loop-turn-preserved g c =
       needed = inr (Needed-read c.read_more.new.self unended c.in_ok-read_more.ensures.read c.read_more.ensures.ahead);
       many = HasRead-one c.read_more.new.self c.loop-turn.invariant.many c.in_ok-read_more.ensures.read some;
       keeps = Keeps-trans _ _ _ c.loop-turn.invariant.keeps c.read_more.ensures.keeps;
+      flushed = inr (search rules);
       prompt = search rules;
       reads = search rules;
       writes = search rules;

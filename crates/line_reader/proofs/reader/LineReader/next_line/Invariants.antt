@@ -1,4 +1,4 @@
-use Rattle.std.proofs.Common.{◌≡◌, ◌⊎◌}
+use Rattle.std.proofs.Common.{◌≡◌, ◌⊎◌, false}
 use Rattle.std.specs.Io.KnownBytes.{Keeps}
 use Rattle.program_ends.specs.Reads.{HasRead}
 use Rattle.line_reader.specs.Given.{Needed, Parted}
@@ -11,6 +11,7 @@ invariant-loop-turn g l = record {
   many : HasRead l._turn (g.R.Read.remaining l.initial.reader.inner) (g.R.Read.remaining l.reader.inner);
   needed : (l.reader ≡ l.initial.reader) ⊎ Needed (g.R.Read.remaining l.initial.reader.inner) (g.R.Read.remaining l.reader.inner) l.initial.self;
   keeps : Keeps (g.W.Write.contents l.initial.writer.inner) (g.W.Write.contents l.writer.inner);
+  flushed : ((l._turn ≡ 0) × (l.reader ≡ l.initial.reader)) ⊎ (l.writer.unflushed ≡ false);
   prompt : l.reader.early_reads ≡ l.initial.reader.early_reads;
   reads : l.reader.failures ≡ 0;
   writes : l.writer.failures ≡ 0;

@@ -1,6 +1,6 @@
 use Rattle.std.proofs.Common.{◌≡◌, ◌≤◌, None, length, vec_capacity}
 use Rattle.std.specs.List.{All}
-use Rattle.room_index.proofs.ranges.fill.Given as goal
+use Rattle.room_index.proofs.ranges.slots.fill.Given as goal
 
 abbrev pub invariant-loop-slot : goal.invariant-loop-slot
 invariant-loop-slot g l = record {
