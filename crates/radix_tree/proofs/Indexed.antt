@@ -5,13 +5,14 @@ use Rattle.radix_tree.proofs.{MovedReads.back_same, MovedReads.next_same}
 use Rattle.radix_tree.proofs.Words.{inside, none_some, MatchOption, Indexes, place_of, places_in, ◌≡◌, ℕ, ◌<◌, ◌≤◌, true, false, List, Option, Some, None, refl}
 use Rattle.radix_tree.proofs.Words.{sym, ap, subst, ◌∙◌, arith, Id, Node, Placed, Ptr, IsIn, LeafPart, leaves_in, Tells, Finds, Best, HasPair, In, shown}
 use Rattle.radix_tree.proofs.Words.{IsWhole, AreCounted, Lodged, IsRoute, bits_in, inl, inr, cases_eq, entry_at, routes_of, masked, number_of, HasPlaceMore}
-use Rattle.radix_tree.proofs.Words.{HasPlaceLess, pair, if◌then◌else◌, true≢false, Bool, eq-eqb, ne_eqb, Entry, Rooms, Holds, is_some, IsKept, IsSome}
-use Rattle.radix_tree.proofs.Words.{with_place, link_in, content_of, KeepsRoutes, lodge_leaf, Leaf}
+use Rattle.radix_tree.proofs.Words.{HasPlaceLess, pair, if◌then◌else◌, true≢false, eq-eqb, ne_eqb, Entry, Rooms, Holds, is_some, IsKept, IsSome}
+use Rattle.radix_tree.proofs.Words.{with_place, link_in, content_of, KeepsRoutes, lodge_leaf, Leaf, IfNone, IfSome, Seen, get, leaf_in}
 use Rattle.mask_table.proofs.Agreeing.{masked_agrees, agrees_where_masked_equal}
 use Rattle.std.specs.Prelude.{◌↔◌}
 use Rattle.mask_table.specs.RankSets.{HasRank}
 use Rattle.radix_tree.specs.Tree.{Covers}
-use Rattle.room_index.specs.Names.{Held, Names, Keeps, Enters, Strikes}
+use Rattle.room_index.specs.Filed.{IsLeafOf}
+use Rattle.room_index.specs.Names.{AreKnown, Held, Names, Keeps, Enters, Loses}
 use Rattle.mask_table.specs.Counts.{count_of}
 use Rattle.std.specs.FinMap.{remove}
 
@@ -145,6 +146,16 @@ pub found_named : (h : Held) (k : ℕ) (o : Option Id) → is_some o ≡ true �
 found_named h k o some found = search arith
 
 module _ {V : Type 0} where
+  -- a room that has a pair has it as a leaf
+  leaf_of_pair : {m : Lodged V} {room : Id} {k : ℕ} (o : Option (Seen V)) → get m (number_of room) ≡ o → place_of (leaf_in o) ≡ Some (room.block, k)
+      → IsLeafOf m (record { pair = k; room = room })
+  leaf_of_pair None at is = absurd (none_some is)
+  leaf_of_pair (Some s) at is = let place = inside is in record { seen = s; at = at; block = ap (λ q. q.0) place; pair = ap (λ q. q.1) place }
+
+  -- so the rooms that an index names tell their pairs
+  pub rooms_known : {h : Held} {m : Lodged V} → Indexes h m → AreKnown (IsLeafOf m) h
+  rooms_known {m = m} is = λ k room named. leaf_of_pair (get m (number_of room)) refl (is.found k room named)
+
   -- the rooms have the routes that they had
   pub same_index : (h : Held) (m new : Lodged V) → ((n : ℕ) → places_in new n ≡ places_in m n) → Indexes h m → Indexes h new
   same_index h m new keeps is = record {
@@ -227,38 +238,36 @@ module _ {V : Type 0} where
       → places_in m (number_of room) ≡ Some (room.block, pair key rank)
   found_place f = search arith
 
-  -- where no route is left, no room has one
-  pub none_left : (m : Lodged V) (root : Option Node) → Holds m root → is_some root ≡ false → (n : ℕ) → places_in m n ≡ None
-  none_left m None holds none n = ap place_of (holds n)
-  none_left m (Some root) holds none n = absurd (true≢false none)
-
-  module _ (i j : Held) (m new : Lodged V) (at : Id) (k : ℕ) (rest : Bool) (is : Indexes i m) (loses : Strikes i j k rest)
-      (once : (r s : Id) → Names i k r → Names i k s → r ≡ s) (had : places_in m (number_of at) ≡ Some (at.block, k)) (less : HasPlaceLess m new at)
-      (gone : rest ≡ false → (n : ℕ) → places_in new n ≡ None) where
+  module _ (i h j : Held) (m new : Lodged V) (at : Id) (k : ℕ) (is : Indexes i m) (loses : Loses i h k)
+      (once : (r s : Id) → Names i k r → Names i k s → r ≡ s) (had : places_in m (number_of at) ≡ Some (at.block, k)) (less : HasPlaceLess m new at) where
     out : (n : ℕ) → n ≡ number_of at → places_in new n ≡ None
     out n same = less n ∙ ap (λ t. if t then None else places_in m n) (eq-eqb n (number_of at) same)
 
     left : (n : ℕ) → (n ≡ number_of at → ⊥) → places_in new n ≡ places_in m n
     left n other = less n ∙ ap (λ t. if t then None else places_in m n) (ne_eqb n (number_of at) other)
 
-    found_less : (q : ℕ) (r : Id) → Names j q r → places_in new (number_of r) ≡ Some (r.block, q)
+    found_less : (q : ℕ) (r : Id) → Names h q r → places_in new (number_of r) ≡ Some (r.block, q)
     found_less q r names =
         let f = loses.fewer q r names in
         let was = is.found q r f.0 in
         left (number_of r) (λ same. f.1 (ap (λ p. p.1) (inside (sym was ∙ ap (places_in m) same ∙ had)))) ∙ was
 
-    all_less : (b : Bool) → rest ≡ b → j.whole ≡ true → (n : ℕ) (place : Ptr × ℕ) → places_in new n ≡ Some place → (r : Id) × Names j place.1 r × (number_of r ≡ n)
-    all_less false none whole n place stands = absurd (none_some (sym (gone none n) ∙ stands))
-    all_less true some whole n place stands =
-        let kept = (loses.loses some).kept whole in
+    all_less : h.whole ≡ true → (n : ℕ) (place : Ptr × ℕ) → places_in new n ≡ Some place → (r : Id) × Names h place.1 r × (number_of r ≡ n)
+    all_less whole n place stands =
+        let kept = loses.kept whole in
         let other : n ≡ number_of at → ⊥ = λ same. none_some (sym (out n same) ∙ stands) in
         let r = is.all kept.0 n place (sym (left n other) ∙ stands) in
         let o = is.all kept.0 (number_of at) (at.block, k) had in
         let not_k : place.1 ≡ k → ⊥ = λ same. other (sym r.2 ∙ ap number_of (once r.0 o.0 (subst (λ q. Names i q r.0) same r.1) o.1) ∙ o.2) in
         (r.0, kept.1 place.1 r.0 not_k r.1, r.2)
 
-    pub index_less : Indexes j new
-    index_less = record { found = found_less; all = all_less rest refl }
+    -- the rest is found by it, or where there is none it begins anew
+    pub index_less : (o : Option Node) → Holds new o → IfSome o (λ node. j ≡ h) → IfNone o ((q : ℕ) (r : Id) → Names j q r → ⊥) → Indexes j new
+    index_less (Some node) holds rest none = subst (λ g. Indexes g new) (sym rest) (record { found = found_less; all = all_less })
+    index_less None holds rest none = record {
+      found = λ q r names. absurd (none q r names);
+      all = λ whole n place stands. absurd (none_some (sym (ap place_of (holds n)) ∙ stands));
+    }
 
   -- -------- what rooms have as leaves, their blocks and pairs, while their links change
   -- ---- the links of leaves are no part of it

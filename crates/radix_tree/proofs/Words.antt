@@ -11,7 +11,7 @@ pub use Rattle.std.specs.Int.Count.{count_leading_zeros}
 pub use Rattle.std.specs.List.{AllByRecursion}
 pub use Rattle.std.specs.Option.{option_or}
 pub use Rattle.std.specs.Ordering.{is_lt, nat_cmp}
-pub use Rattle.std.specs.Prelude.{Contains, IfSome, IsSome, MatchOption, find, is_some, option_map}
+pub use Rattle.std.specs.Prelude.{Contains, IfNone, IfSome, IsSome, MatchOption, find, is_some, option_map}
 pub use denote.RawPtr.{Ptr}
 pub use Rattle.mask_table.specs.Agreeing.{agrees, front, masked}
 pub use Rattle.mask_table.specs.Counts.{HasOneMore}

@@ -39,11 +39,15 @@ pair_reads = way_reads + chain_reads
 abbrev pub room_reads : ℕ
 room_reads = way_reads + chain_reads + 1 + (width + width)
 
+-- of a look-up by the index: the tags of sixteen places, these places, and the room of each
+abbrev pub index_reads : ℕ
+index_reads = pair_looks + 16
+
 -- of the best route's room by the index, which is asked for each rank, with a look at the ranks that are near; a way
 -- through the tree reads less
 abbrev pub asked_reads : ℕ
-asked_reads = ranks * (pair_looks + 1)
+asked_reads = ranks * (index_reads + 1)
 
--- of the best route: its room, its leaf and its value. They are 1,124, and 2,400 are promised
+-- of the best route: its room, its leaf and its value. They are 1,668, and 2,400 are promised
 abbrev pub best_reads : ℕ
 best_reads = asked_reads + 2

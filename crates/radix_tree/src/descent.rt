@@ -11,10 +11,10 @@ ghost use Rattle.radix_tree.specs.Tree.{bit_at};
 ghost use Rattle.radix_tree.specs.Whole.{IsWhole};
 
 use crate::bits::{first_difference, is_one};
+use crate::index::Index;
 use crate::listing::first_of_chain;
 use crate::roles::{self, bit_node};
 use radix_nodes::{Id, Node, Nodes, Visits};
-use room_index::Index;
 use sock_addrs::Inet;
 
 /// The leaf to which an address's bits lead from a node, by its first room.

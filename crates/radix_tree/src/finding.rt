@@ -13,9 +13,9 @@ ghost use Rattle.radix_tree.specs.Whole.{IsWhole, shown};
 ghost use Rattle.room_index.specs.Names.{Names};
 
 use crate::backtracking::{best_room, room_of};
+use crate::index::Index;
 use mask_table::{Counts, Rank, Ranks, masked};
 use radix_nodes::{Id, Node, Nodes, Visits};
-use room_index::Index;
 use sock_addrs::Inet;
 
 /// After so many ranks that no route of the address has, it is looked which are near. Mostly the longest ranks have
@@ -38,7 +38,7 @@ pub(crate) fn find_room<V>(
     ensures visits { Reads visits.old visits.new pair_reads }
 {
     if index.is_whole() {
-        index.find(key, rank, visits)
+        index.find(key, rank, nodes, visits)
     } else {
         room_of(nodes, root, key, rank, visits)
     }
@@ -82,6 +82,7 @@ fn best_by_rank<V>(
     requires indexed { Indexes index.now nodes.now.lodged }
     requires all { index.now.whole ≡ true }
     requires counted { AreCounted counts.now (shown nodes.now.lodged (Some root)) }
+    requires turn { visits.old.turn ≡ nodes.now.turn }
     ensures best { (w : IsWhole nodes.now.lodged root) → Tells (Best address 0 ranks (In w.part)) result }
     ensures visits { Reads visits.old visits.new asked_reads }
 {
@@ -89,7 +90,7 @@ fn best_by_rank<V>(
     let mut left = 34;
     let mut asked = 0u8;
     while let Some(rank) = ranks.greatest_below(left) {
-        if let Some(room) = index.find(masked(address, rank), rank, visits) {
+        if let Some(room) = index.find(masked(address, rank), rank, nodes, visits) {
             return Some(room);
         }
         left = rank.number();

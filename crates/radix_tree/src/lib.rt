@@ -9,6 +9,7 @@ mod entry;
 mod finding;
 mod given;
 mod growing;
+mod index;
 mod inserting;
 mod joining;
 pub mod laws;

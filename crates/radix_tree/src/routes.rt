@@ -2,10 +2,10 @@
 ghost use Rattle.std.specs.Prelude.{◌≡◌, ◌+◌, [], IfOk, IsOk};
 
 use crate::given::Given;
+use crate::index::Index;
 use mask_table::Counts;
 use memory::Numbers;
 use radix_nodes::{Node, Nodes, Visits};
-use room_index::Index;
 use std::alloc::{AllocError, Global};
 use std::marker::Model;
 

@@ -9,10 +9,10 @@ ghost use Rattle.radix_tree.specs.Reads.{Reads};
 ghost use Rattle.radix_tree.specs.Whole.{IsWhole, shown};
 
 use crate::finding::find_best;
+use crate::index::Index;
 use crate::roles;
 use mask_table::{Counts, Rank};
 use radix_nodes::{Node, Nodes, Visits};
-use room_index::Index;
 use sock_addrs::Inet;
 
 /// The best route of an address in the tree beneath a root, or `None` where none agrees.

@@ -12,6 +12,7 @@ use crate::descent::near_leaf;
 use crate::entry::Entry;
 use crate::finding::{find_best, find_room};
 use crate::growing::insert;
+use crate::index::renew;
 use crate::removing::remove_route;
 use crate::roles;
 use crate::room::Room;
@@ -86,7 +87,8 @@ impl<V: Drop> Table<V> {
         ensures turn { self.new.turn ≡ self.old.turn + 1 }
     {
         let mut visits = self.begin();
-        if self.index.find(key, rank, &mut visits).is_some() {
+        let index = &self.index;
+        if index.find(key, rank, &self.nodes, &mut visits).is_some() {
             return Err((room, value));
         }
         self.put(room, key, rank, value, &mut visits)
@@ -146,7 +148,7 @@ impl<V: Drop> Table<V> {
             None => None,
         };
         let entry = Entry::of(key, rank, value);
-        let vacancy = self.index.vacancy(key, rank, visits);
+        let vacancy = self.index.vacancy(key, rank, &self.nodes, visits);
         match insert(&mut self.nodes, near, self.root, space, entry, visits) {
             Err((space, value)) => Err((Room { space, number }, value)),
             Ok((root, id)) => {
@@ -180,10 +182,12 @@ impl<V: Drop> Table<V> {
         let Some(at) = find_room(&self.nodes, &self.index, root, key, rank, &mut visits) else {
             return None;
         };
+        // while the room is there to tell its pair
+        self.index.strike(key, rank, &self.nodes, &mut visits);
         let (root, freed, value) = remove_route(&mut self.nodes, root, at, &mut visits);
         self.root = root;
         self.counts.dropped(rank);
-        self.index.strike(key, rank, root.is_some(), &mut visits);
+        renew(&mut self.index, root);
         self.given.take(Snapshot::of(&freed));
         self.nodes.scrap(freed);
         Some(value)

@@ -1,4 +1,4 @@
-use Rattle.radix_tree.proofs.Indexed.{AreLeft, all_left, rank_hit, rank_miss, ranks_kept, no_rank}
+use Rattle.radix_tree.proofs.Indexed.{AreLeft, all_left, rank_hit, rank_miss, ranks_kept, no_rank, rooms_known}
 use Rattle.radix_tree.proofs.Words.{◌∙◌, arith, refl, sym, subst}
 use Rattle.radix_tree.proofs.finding.best_by_rank.Goals as goal
 
@@ -8,6 +8,9 @@ loop-rank-init g c = record {
   are = λ w. all_left w c.requires.indexed c.args.counts.now c.args.address c.ranks-ranks.result c.requires.counted c.ranks-ranks.ensures;
   reads = record { turn = refl; rises = omega arith; bound = omega arith };
 }
+
+pub find-requires-clause-known : goal.find-requires-clause-known
+find-requires-clause-known g c = rooms_known c.requires.indexed
 
 pub returns-in-Some-find : goal.returns-in-Some-find
 returns-in-Some-find g c =

@@ -1,7 +1,10 @@
 -- A pair that the index has a room for is there.
-use Rattle.radix_tree.proofs.Indexed.{found_named, named_there}
+use Rattle.radix_tree.proofs.Indexed.{found_named, named_there, rooms_known}
 use Rattle.radix_tree.proofs.Words.{◌∙◌, IsSome, arith, ap, entry_at, pair, refl, subst, sym}
 use Rattle.radix_tree.proofs.routes.Table.add.Goals as goal
+
+pub find-requires-clause-known : goal.find-requires-clause-known
+find-requires-clause-known g c = rooms_known c.self.invariant.indexed
 
 pub returns-then-is_some-clause-there : goal.returns-then-is_some-clause-there
 returns-then-is_some-clause-there g c =

@@ -1,5 +1,5 @@
 use Rattle.radix_tree.proofs.{Counted.few_held, Counted.counted_more, Counted.given_more, WholeRoutes.gains_entry, Kept.shown_table, Kept.whole_at}
-use Rattle.radix_tree.proofs.Indexed.{absent_place, index_keeps, index_more, kept_keeps}
+use Rattle.radix_tree.proofs.Indexed.{absent_place, index_keeps, index_more, kept_keeps, rooms_known}
 use Rattle.radix_tree.proofs.Words.{◌≡◌, ℕ, ◌+◌, ◌<◌, ◌∷◌, Some, None, sym, ap, subst, ◌∙◌, arith, HasOneMore, AreCounted, entry_at, uses, with_entry}
 use Rattle.radix_tree.proofs.Words.{shown, Holds, leaf_in, leaves_in, Ptr, AreGiven, numbers_in, HasPlaceMore, Indexes, pair, place_of, places_in, number_of}
 use Rattle.radix_tree.proofs.routes.Table.put.Goals.{In-Ok, After-vacancy-vacancy}
@@ -12,6 +12,10 @@ near_leaf-near-requires-clause-indexed g c =
 pub near_leaf-near-requires-clause-whole : goal.near_leaf-near-requires-clause-whole
 near_leaf-near-requires-clause-whole g c =
     whole_at _ (subst (λ r. Holds r.lodged c.self.inside.root) (sym c.spare-space.ensures.stays) c.self.invariant.holds) c.in-Some.is
+
+pub vacancy-vacancy-requires-clause-known : goal.vacancy-vacancy-requires-clause-known
+vacancy-vacancy-requires-clause-known g c =
+    rooms_known (subst (λ r. Indexes c.self.inside.index r.lodged) (sym c.spare-space.ensures.stays) c.self.invariant.indexed)
 
 pub added-requires : goal.added-requires
 added-requires g c = grind (arith, few_held, shown_table)

@@ -1,4 +1,4 @@
-use Rattle.radix_tree.proofs.{TableLemmas.without_absent, Gained.lost, Indexed.index_begun, Indexed.index_less, Indexed.found_place, Indexed.none_left}
+use Rattle.radix_tree.proofs.{TableLemmas.without_absent, Gained.lost, Indexed.index_begun, Indexed.index_less, Indexed.found_place, Indexed.rooms_known}
 use Rattle.radix_tree.proofs.Counted.{not_held, counted_less, given_less, one_there, went}
 use Rattle.radix_tree.proofs.Kept.{Has-found, IsFound, found, not_found, whole_next, shown_next, entries_next, shown_begun, given_begun}
 use Rattle.radix_tree.proofs.Words.{arith, ◌≡◌, ◌+◌, ◌==◌, if◌then◌else◌, None, sym, ap, subst, ◌∙◌, leaf_in, HasOneMore, IsKept, AreCounted, entry_at, uses}
@@ -44,6 +44,10 @@ is_found g c =
     let w = whole_next c.self.inside.nodes c.begin-visits.new.self c.self.invariant.holds c.in-Some.is c.begin-visits.ensures.turn in
     found w c.args.key c.args.rank c.in-Some-find_room.is (c.find_room.ensures.found w)
 
+pub strike-requires-clause-known : goal.strike-requires-clause-known
+strike-requires-clause-known g c =
+    rooms_known (index_begun c.self.inside.index c.self.inside.nodes c.begin-visits.new.self c.begin-visits.ensures.turn c.self.invariant.indexed)
+
 pub remove_route-root-requires-clause-there : goal.remove_route-root-requires-clause-there
 remove_route-root-requires-clause-there g c = Has-found _ (is_found g (goal.at.remove_route-root-requires-clause-there g c).In-Some-find_room)
 
@@ -61,15 +65,15 @@ invariant_of-self-2 g c =
     let numbered = given_less c.begin-visits.new.self.lodged c.remove_route-root.new.nodes.lodged (number_of c.in-Some-find_room.at)
     (given_begun c.self.inside.nodes c.begin-visits.new.self c.begin-visits.ensures.turn c.self.invariant.numbered)
     (ap leaf_in c.remove_route-root.ensures.gone) c.remove_route-root.ensures.rooms in
-    subst (λ r. IsKept r c.remove_route-root.result.0 c.dropped.new.self c.strike.new.self c.take.new.self c.self.inside.numbers)
+    subst (λ r. IsKept r c.remove_route-root.result.0 c.dropped.new.self c.renew.new.index c.take.new.self c.self.inside.numbers)
     (sym c.scrap.ensures) (record {
       holds = c.remove_route-root.ensures.whole;
       counted = counted_less _ _ c.self.inside.counts c.dropped.new.self counted went.gains
           (subst (λ r. HasOneMore r c.dropped.new.self c.self.inside.counts) (sym f.has.1) c.dropped.ensures);
-      indexed = index_less c.self.inside.index c.strike.new.self c.begin-visits.new.self.lodged c.remove_route-root.new.nodes.lodged c.in-Some-find_room.at _ _
-          (index_begun c.self.inside.index c.self.inside.nodes c.begin-visits.new.self c.begin-visits.ensures.turn c.self.invariant.indexed)
+      indexed = index_less c.self.inside.index c.strike.new.self c.renew.new.index c.begin-visits.new.self.lodged c.remove_route-root.new.nodes.lodged
+          c.in-Some-find_room.at _ (index_begun c.self.inside.index c.self.inside.nodes c.begin-visits.new.self c.begin-visits.ensures.turn c.self.invariant.indexed)
           c.strike.ensures.struck c.strike.ensures.once (found_place f) c.remove_route-root.ensures.places
-          (λ none. none_left _ _ c.remove_route-root.ensures.whole (sym c.is_some.ensures ∙ none));
+          c.remove_route-root.result.0 c.remove_route-root.ensures.whole c.renew.ensures.rest c.renew.ensures.none;
       numbered = subst (λ p. AreGiven c.remove_route-root.new.nodes.lodged p c.self.inside.numbers)
           (sym (taken g (goal.at.invariant_of-self-2 g c).After-take)) numbered;
     })
