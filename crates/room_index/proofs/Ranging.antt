@@ -66,7 +66,7 @@ module _ {P : Type 0} where
   same_by_range r s is same = record {
     few = subst (λ b. b ≤ 24) (sym same.bits) is.few;
     finer = omega (arith, same.bits, same.finer, is.finer);
-    own = λ n e at. ap (λ b. e.pair / 2 ^ (38 - (b + s.finer)) % 2 ^ b) same.bits ∙ ap (λ f. e.pair / 2 ^ (38 - (r.bits + f)) % 2 ^ r.bits) same.finer
+    own = λ n e at. ap (λ b. e.pair / 2 ^ (38 - (b + s.finer)) % 2 ^ b / 2) same.bits ∙ ap (λ f. e.pair / 2 ^ (38 - (r.bits + f)) % 2 ^ r.bits / 2) same.finer
         ∙ is.own n e (ap (λ xs. entry_of (slice_get xs n)) (sym same.last) ∙ at);
   }
 

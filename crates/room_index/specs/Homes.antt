@@ -1,6 +1,6 @@
 -- Where a pair of a key and a rank is at home: in two of 2^bits buckets, under a tag. All three are parts of one
 -- number.
-use Rattle.std.specs.Prelude.{ℕ, ◌+◌, ◌-◌, ◌*◌, ◌/◌, ◌%◌, ◌^◌, nat_lt, if◌then◌else◌, bit_xor}
+use Rattle.std.specs.Prelude.{ℕ, ◌+◌, ◌-◌, ◌*◌, ◌/◌, ◌%◌, ◌^◌, nat_lt, max, if◌then◌else◌, bit_xor}
 use Rattle.room_index.specs.declared.homes.Homes.{Homes}
 
 -- the number of a pair, whose rank is below 64
@@ -25,9 +25,9 @@ spread pair =
     if nat_lt (pair % 64) 32 then folded pair
     else bit_xor (folded (pair - side pair * 64)) (side pair * (2 ^ 24 + 1))
 
--- the tag, which is odd, so that it isn't 0
+-- the tag, which isn't 0
 abbrev pub tag_of : ℕ → ℕ
-tag_of pair = spread pair / 2 ^ 49 * 2 + 1
+tag_of pair = max (spread pair / 2 ^ 56) 1
 
 abbrev pub first_home : ℕ → ℕ → ℕ
 first_home bits pair = spread pair % 2 ^ bits

@@ -20,9 +20,9 @@ entry_of (Some last) = last
 
 module _ {P : Type 0} where
   -- ---- the entry that is near
-  -- which of 2^bits a pair has, by the last ones of a few bits more
+  -- which of them a pair has: of two ranges one, by the last ones of a few bits more
   abbrev pub slot_of : Ranges P → ℕ → ℕ
-  slot_of r pair = pair / 2 ^ (38 - (r.bits + r.finer)) % 2 ^ r.bits
+  slot_of r pair = pair / 2 ^ (38 - (r.bits + r.finer)) % 2 ^ r.bits / 2
 
   abbrev pub last_in : Ranges P → ℕ → Option Filed
   last_in r n = entry_of (slice_get r.last.items n)
@@ -72,6 +72,6 @@ module _ {P : Type 0} where
     pub ranks : (n rank : ℕ) → HasRank (slice_index old.ranks.items n) rank → HasRank (slice_index new.ranks.items n) rank
 
 -- ---- how many there are
--- twice as many, or the first
-abbrev pub more_ranges : {T : Type 0} → Vec T → ℕ
-more_ranges known = if length known.items == 0 then 8 else 2 * length known.items
+-- twice as many, or so many at first
+abbrev pub more_of : {T : Type 0} → ℕ → Vec T → ℕ
+more_of first known = if length known.items == 0 then first else 2 * length known.items

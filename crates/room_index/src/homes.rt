@@ -35,10 +35,10 @@ pub(crate) fn rank_of(pair: u64) -> Rank
     Rank::new((pair % 64).min(33) as u8)
 }
 
-/// The two buckets in which a pair is at home, and the tag that its place has there, which is odd: a free place has 0.
+/// The two buckets in which a pair is at home, and the tag that its place has there, which isn't 0, as a free place's is.
 #[derive(Clone, Copy)]
 pub(crate) struct Homes {
-    pub(crate) tag: u16,
+    pub(crate) tag: u8,
     pub(crate) first: usize,
     pub(crate) second: usize,
 }
@@ -52,7 +52,7 @@ impl Homes {
     {
         let spread = spread(pair);
         Homes {
-            tag: (spread >> 49) as u16 * 2 + 1,
+            tag: ((spread >> 56) as u8).max(1),
             first: low_bits(spread, bits),
             second: low_bits(spread >> MOST_BITS, bits),
         }

@@ -15,7 +15,7 @@ const CROWDED: u16 = 64;
 pub(crate) const BESIDE: usize = 8;
 
 /// Where the entries are so many to each slot that has one, their keys lie close together, and slots are cut finer.
-const LOOSE: usize = 8;
+const LOOSE: usize = 16;
 
 /// Of the pairs that share a slot the one that came last, while it is there. A contract sees its entry, or `None`.
 #[derive(Drop)]
@@ -63,7 +63,7 @@ impl<P: Pair> Last<P> {
     /// parted, behind which so many are left.
     #[inline(always)]
     pub(crate) fn room_beside(&self, key: u32, left: u32) -> Option<Id>
-        requires { left ≤ 32 }
+        requires { left ≤ 33 }
         ensures { IfSome result (λ room. (e : Filed) × (self.now ≡ Some e) × (e.room ≡ room)) }
     {
         if self.is_there
@@ -98,8 +98,8 @@ impl<P: Pair> Last<P> {
 }
 
 /// How many bits more than a range's the pairs of a slot are to share, and shared so far, by how many entries there are
-/// to so many slots that have one: as many more as leave it four where they lie close together, and fewer where each is
-/// alone.
+/// to so many slots that have one: as many more as leave it eight where they lie close together, and fewer where there
+/// are two at most.
 pub(crate) fn finer_by(finer: u32, entries: usize, used: usize) -> u32
     requires { finer ≤ 32 }
 {
@@ -107,8 +107,8 @@ pub(crate) fn finer_by(finer: u32, entries: usize, used: usize) -> u32
         return finer;
     };
     if each > LOOSE {
-        (finer + each.ilog2()).saturating_sub(2)
-    } else if each <= 1 {
+        (finer + each.ilog2()).saturating_sub(3)
+    } else if each <= 2 {
         finer.saturating_sub(1)
     } else {
         finer

@@ -20,18 +20,18 @@ use std::mem;
 /// How many places there are at first, those of four buckets.
 pub(crate) const FEWEST: usize = 32;
 
-/// How many entries and tags there is memory for beside those that are there: 48 bytes. With what the C library puts
+/// How many entries and tags there is memory for beside those that are there: 48 bytes, of rooms alone. With what the C library puts
 /// before it each block is then as long as whole lines of the cache, so that rooms which are made after it lie in their
 /// lines as those before.
-const ENTRIES_BESIDE: usize = 3;
+const ENTRIES_BESIDE: usize = 6;
 
-const TAGS_BESIDE: usize = 24;
+const TAGS_BESIDE: usize = 48;
 
 /// Places for entries, eight to each of 2^`bits` buckets, or none yet. Beside each entry, in a list of its own, stands
 /// its tag, or 0 where the place is free: so the tags of a bucket are read at once.
 #[derive(Drop)]
 pub(crate) struct Places<P: Pair> {
-    tags: Vec<u16>,
+    tags: Vec<u8>,
     entries: Vec<Entry<P>>,
     pub(crate) bits: u32,
     /// In how many of them an entry stands.
@@ -112,7 +112,7 @@ impl<P: Pair> Places<P> {
 
     /// What stands in a place under this tag.
     #[inline(always)]
-    fn tagged(&self, place: usize, tag: u16, visits: &mut Visits) -> Option<&Entry<P>>
+    fn tagged(&self, place: usize, tag: u8, visits: &mut Visits) -> Option<&Entry<P>>
         requires tags { place < length self.now.tags.items }
         requires entries { length self.now.entries.items ≡ length self.now.tags.items }
         ensures entry { option_map (λ e. e.now) result
@@ -177,7 +177,7 @@ impl<P: Pair> Places<P> {
 
     /// Puts an entry into a free place.
     #[inline(always)]
-    pub(crate) fn put(&mut self, place: usize, tag: u16, entry: Entry<P>)
+    pub(crate) fn put(&mut self, place: usize, tag: u8, entry: Entry<P>)
         requires tags { place < length self.old.tags.items }
         requires entries { length self.old.entries.items ≡ length self.old.tags.items }
         requires tag { tag ≡ tag_of entry.pair }
@@ -192,7 +192,7 @@ impl<P: Pair> Places<P> {
 
     /// Writes an entry and its tag into a place.
     #[inline(always)]
-    fn write(&mut self, place: usize, tag: u16, entry: Entry<P>)
+    fn write(&mut self, place: usize, tag: u8, entry: Entry<P>)
         requires tags { place < length self.old.tags.items }
         requires entries { length self.old.entries.items ≡ length self.old.tags.items }
         requires tag { tag ≡ tag_of entry.pair }

@@ -5,7 +5,7 @@ ghost use Rattle.mask_table.specs.RankSets.{HasRank};
 ghost use Rattle.memory.specs.Refusing.{Rises};
 ghost use Rattle.room_index.specs.Looks.{Reads, near_looks};
 ghost use Rattle.room_index.specs.Places.{AllAre, IsIn, IsTable};
-ghost use Rattle.room_index.specs.Ranges.{last_in, more_ranges, range_of, slot_of, AreTold, Has, HasNone, HasSameLast, IsByRange, IsTold, KeepsOthers, TellsMore, TellsRank};
+ghost use Rattle.room_index.specs.Ranges.{last_in, more_of, range_of, slot_of, AreTold, Has, HasNone, HasSameLast, IsByRange, IsTold, KeepsOthers, TellsMore, TellsRank};
 ghost use Rattle.room_index.specs.Filed.{Filed};
 
 mod slots;
@@ -26,8 +26,11 @@ use std::alloc::{AllocError, Global};
 /// How many ranges there are at first.
 const FEWEST: usize = 8;
 
+/// So many ranges have one slot.
+const EACH: usize = 2;
+
 /// How many there is memory for beside those that are there: 48 bytes, as of the places.
-const LAST_BESIDE: usize = 2;
+const LAST_BESIDE: usize = 3;
 
 const RANKS_BESIDE: usize = 6;
 
@@ -40,9 +43,9 @@ const WIDEST: u32 = 6;
 /// What is known of the entries of the table of places by the first bits of their keys.
 ///
 /// Of each of 2^`bits` ranges the ranks of all that are there, or were, so that no other rank is asked for. And of each
-/// of as many slots the entry that came last, or any where none has come since their number changed, so that a pair
+/// of half as many slots the entry that came last, or any where none has come since their number changed, so that a pair
 /// that is to come finds one whose key begins as its own does. Where all keys are of a few ranges the pairs of one are
-/// too many to be near each other: so those of a slot share `finer` bits more, of which the last `bits` number it.
+/// too many to be near each other: so those of a slot share `finer` bits more, of which the last ones number it.
 #[derive(Drop)]
 pub(crate) struct Ranges<P: Pair> {
     last: Vec<Last<P>>,
@@ -70,9 +73,9 @@ impl<P: Pair> Ranges<P> {
 
     /// How many there are.
     pub(crate) fn many(&self) -> usize
-        ensures { result ≡ length self.now.last.items }
+        ensures { result ≡ length self.now.ranks.items }
     {
-        self.last.len()
+        self.ranks.len()
     }
 
     /// How many there is memory for.
@@ -116,7 +119,6 @@ impl<P: Pair> Ranges<P> {
         ensures only { (e : Filed) → Has self.new e → (e ≡ record { pair = pair; room = room }) ⊎ Has self.old e }
         ensures told { IsTold self.new pair }
         ensures more { TellsMore self.old self.new }
-        ensures many { length self.new.last.items ≡ length self.old.last.items }
         ensures counter { visits.new.turn ≡ visits.old.turn }
     {
         self.put_last(pair, room, visits);
@@ -209,14 +211,14 @@ impl<P: Pair> Ranges<P> {
         ensures bits { self.new.bits ≡ self.old.bits }
         ensures finer { self.new.finer ≡ self.old.finer }
         ensures room { OnOk result (self.new.bits < MOST_BITS
-            → more_ranges self.new.last ≤ vec_capacity self.new.last) }
+            → more_of (FEWEST / EACH) self.new.last ≤ vec_capacity self.new.last) }
         ensures ranks_room { OnOk result
-            (self.new.bits < MOST_BITS → more_ranges self.new.ranks ≤ vec_capacity self.new.ranks) }
+            (self.new.bits < MOST_BITS → more_of FEWEST self.new.ranks ≤ vec_capacity self.new.ranks) }
         ensures counted { Rises (is_err result) memory.old memory.new }
     {
         if self.bits < MOST_BITS {
-            ask_for_more(&mut self.last, LAST_BESIDE, memory)?;
-            ask_for_more(&mut self.ranks, RANKS_BESIDE, memory)?;
+            ask_for_more(&mut self.last, FEWEST / EACH, LAST_BESIDE, memory)?;
+            ask_for_more(&mut self.ranks, FEWEST, RANKS_BESIDE, memory)?;
         }
         Ok(())
     }
@@ -234,14 +236,14 @@ impl<P: Pair> Ranges<P> {
         ensures ranges { IsByRange self.new }
         ensures within { (e : Filed) → Has self.new e → IsIn places.now e }
         ensures told { AreTold self.new places.now }
-        ensures many { length places.now.tags.items / PLACES ≤ vec_capacity self.old.last
+        ensures many { length places.now.tags.items / PLACES / EACH ≤ vec_capacity self.old.last
             → length places.now.tags.items / PLACES ≤ vec_capacity self.old.ranks
-            → length self.new.last.items ≡ length places.now.tags.items / PLACES }
+            → length self.new.ranks.items ≡ length places.now.tags.items / PLACES }
         ensures counter { visits.new.turn ≡ visits.old.turn }
     {
         let many = places.many() / PLACES;
-        if many != self.last.len()
-            && many <= self.last.capacity()
+        if many != self.many()
+            && many / EACH <= self.last.capacity()
             && many <= self.ranks.capacity()
         {
             self.renew(many, places, rooms, visits);
@@ -261,13 +263,13 @@ impl<P: Pair> Ranges<P> {
         requires table { IsTable places.now }
         requires known { AllAre (R.Knows rooms.now) places.now }
         requires turn { R.IsTurn rooms.now visits.old.turn }
-        requires last { many ≤ vec_capacity self.old.last }
+        requires last { many / EACH ≤ vec_capacity self.old.last }
         requires ranks { many ≤ vec_capacity self.old.ranks }
         requires finer { self.old.finer ≤ KEY_BITS }
         ensures ranges { IsByRange self.new }
         ensures within { (e : Filed) → Has self.new e → IsIn places.now e }
         ensures told { AreTold self.new places.now }
-        ensures many { length self.new.last.items ≡ many }
+        ensures many { length self.new.ranks.items ≡ many }
         ensures counter { visits.new.turn ≡ visits.old.turn }
     {
         let finer = finer_by(self.finer, places.used(), self.used(visits));
@@ -284,15 +286,15 @@ impl<P: Pair> Ranges<P> {
     fn begin(&mut self, many: usize, bits: u32, finer: u32)
         requires bits { bits ≤ MOST_BITS }
         requires finer { bits + finer ≤ KEY_BITS }
-        requires last { many ≤ vec_capacity self.old.last }
+        requires last { many / EACH ≤ vec_capacity self.old.last }
         requires ranks { many ≤ vec_capacity self.old.ranks }
         ensures ranges { IsByRange self.new }
         ensures none { HasNone self.new }
-        ensures many { length self.new.last.items ≡ many }
+        ensures many { length self.new.ranks.items ≡ many }
     {
-        let fewer = many < self.last.len();
+        let fewer = many < self.many();
         self.last.clear();
-        fill(&mut self.last, many);
+        fill(&mut self.last, many / EACH);
         self.ranks.clear();
         self.ranks.resize(many, Ranks::none()).unwrap();
         self.short = Ranks::none();
@@ -306,14 +308,20 @@ impl<P: Pair> Ranges<P> {
 }
 
 /// Asks for the memory of twice as many, or of the first, and of some beside.
-fn ask_for_more<T>(known: &mut Vec<T>, beside: usize, memory: &mut Memory) -> Result<(), AllocError>
-    requires { beside ≤ 6 }
+fn ask_for_more<T>(
+    known: &mut Vec<T>,
+    first: usize,
+    beside: usize,
+    memory: &mut Memory,
+) -> Result<(), AllocError>
+    requires first { first ≤ FEWEST }
+    requires beside { beside ≤ 6 }
     ensures items { known.new.items ≡ known.old.items }
-    ensures room { OnOk result (more_ranges known.new ≤ vec_capacity known.new) }
+    ensures room { OnOk result (more_of first known.new ≤ vec_capacity known.new) }
     ensures counted { Rises (is_err result) memory.old memory.new }
 {
     if known.is_empty() {
-        memory.reserve(known, FEWEST + beside)
+        memory.reserve(known, first + beside)
     } else {
         memory.double(known, beside)
     }

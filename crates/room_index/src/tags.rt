@@ -16,10 +16,10 @@ pub(crate) const BOTH: usize = 2 * PLACES;
 /// where none has it. It reads the tags of all at once, and counts a visit for each.
 #[inline(always)]
 pub(crate) fn places_before(
-    tags: &[u16],
+    tags: &[u8],
     first: usize,
     second: usize,
-    tag: u16,
+    tag: u8,
     visits: &mut Visits,
 ) -> usize
     requires first { first + PLACES ≤ length tags.now }
@@ -29,14 +29,14 @@ pub(crate) fn places_before(
     ensures visits { visits.new ≡ record visits.old { count = visits.old.count + BOTH } }
 {
     count(BOTH, visits);
-    let lower = u16x8::from_slice(&tags[first..]);
-    let upper = u16x8::from_slice(&tags[second..]);
+    let lower = u8x8::from_slice(&tags[first..]);
+    let upper = u8x8::from_slice(&tags[second..]);
     let hits = lower
         .shuffle::<16>(
             upper,
             [0, 1, 2, 3, 4, 5, 6, 7, 8, 9, 10, 11, 12, 13, 14, 15],
         )
-        .simd_eq(u16x16::splat(tag))
+        .simd_eq(u8x16::splat(tag))
         .to_bitmask();
     if hits == 0 {
         BOTH
@@ -48,14 +48,14 @@ pub(crate) fn places_before(
 /// How many places of a bucket, of which the tags begin there, come before the first free one; all of them where none
 /// is free. It reads the tags of all at once, and counts a visit for each.
 #[inline(always)]
-pub(crate) fn used_before(tags: &[u16], begin: usize, visits: &mut Visits) -> usize
+pub(crate) fn used_before(tags: &[u8], begin: usize, visits: &mut Visits) -> usize
     requires { begin + PLACES ≤ length tags.now }
     ensures before { result ≡ prefix_len (λ t. not (t == 0)) (chunk begin PLACES tags.now) }
     ensures visits { visits.new ≡ record visits.old { count = visits.old.count + PLACES } }
 {
     count(PLACES, visits);
-    let free = u16x8::from_slice(&tags[begin..])
-        .simd_eq(u16x8::splat(0))
+    let free = u8x8::from_slice(&tags[begin..])
+        .simd_eq(u8x8::splat(0))
         .to_bitmask();
     if free == 0 {
         PLACES

@@ -136,12 +136,12 @@ fn table_follows_its_pairs(rt: HostRuntime) -> Result<(), Fail> {
         for number in 0..50_000 {
             trial.enter(number)?;
         }
-        assert_eq!(rt; trial.places(), 131_072 + 24, "in round {round}");
+        assert_eq!(rt; trial.places(), 131_072 + 48, "in round {round}");
         for number in 100..50_000 {
             trial.strike(number, true);
         }
         assert!(rt;
-            trial.places() <= 1_024 + 24,
+            trial.places() <= 1_024 + 48,
             "in round {round}: {}",
             trial.places()
         );

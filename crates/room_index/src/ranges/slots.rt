@@ -5,7 +5,7 @@ ghost use Rattle.room_index.specs.Filed.{Filed};
 ghost use Rattle.room_index.specs.Looks.{Reads, near_looks};
 ghost use Rattle.room_index.specs.Ranges.{last_in, slot_of, Has, IsByRange, KeepsOthers};
 
-use super::{KEY_BITS, Ranges};
+use super::{EACH, KEY_BITS, Ranges};
 use crate::entry::Pair;
 use crate::homes::{MOST_BITS, PAIR_BITS, key_of, low_bits};
 use crate::last::{BESIDE, Last};
@@ -28,7 +28,7 @@ impl<P: Pair> Ranges<P> {
         requires finer { self.now.bits + self.now.finer ≤ KEY_BITS }
         ensures { result ≡ slot_of self.now pair }
     {
-        low_bits(pair >> self.rest(), self.bits)
+        low_bits(pair >> self.rest(), self.bits) / EACH
     }
 
     /// The room of the pair that a pair's slot has, or one beside it, where that one's key begins as this one's does
@@ -63,7 +63,7 @@ impl<P: Pair> Ranges<P> {
         if slot >= self.last.len() {
             return None;
         }
-        let left = KEY_BITS - (self.bits + self.finer);
+        let left = KEY_BITS - (self.bits + self.finer) + 1;
         self.last[slot].room_beside(key, left)
     }
 

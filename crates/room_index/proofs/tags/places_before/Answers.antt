@@ -1,4 +1,4 @@
-use Rattle.std.proofs.Common.{◌≡◌, ℕ, ◌+◌, ◌≤◌, ◌==◌, ◌++◌, not, List, eqb, length, sym, ap, ◌∙◌, arith, refl, w16}
+use Rattle.std.proofs.Common.{◌≡◌, ℕ, ◌+◌, ◌≤◌, ◌==◌, ◌++◌, not, List, eqb, length, sym, ap, ◌∙◌, arith, refl, w8}
 use Rattle.std.specs.List.{prefix_len, range_with_len}
 use lib.Count.{count_trailing_zeros}
 use lib.Lanes.{chunk, pick_l}
@@ -18,13 +18,13 @@ lanes_before tags first second tag lower upper = ap (prefix_len (λ t. not (eqb 
 pub returns-then-hits-eq0-clause-before : goal.returns-then-hits-eq0-clause-before
 returns-then-hits-eq0-clause-before c =
     let both = lanes c.args.tags.now c.args.first c.args.second in
-    let hits = bitmask_splat w16 eqb both 16 c.args.tag refl (omega arith) in
+    let hits = bitmask_splat w8 eqb both 16 c.args.tag refl (omega arith) in
     sym (leading_from_mask_l (λ t. eqb t c.args.tag) both (sym hits ∙ c.if-hits-eq0.true))
     ∙ lanes_before c.args.tags.now c.args.first c.args.second c.args.tag c.requires.first c.requires.second
 
 pub returns-else-hits-eq0-clause-before : goal.returns-else-hits-eq0-clause-before
 returns-else-hits-eq0-clause-before c =
     let both = lanes c.args.tags.now c.args.first c.args.second in
-    let hits = bitmask_splat w16 eqb both 16 c.args.tag refl (omega arith) in
+    let hits = bitmask_splat w8 eqb both 16 c.args.tag refl (omega arith) in
     ap (count_trailing_zeros 64) hits ∙ trailing_mask_l (λ t. eqb t c.args.tag) 64 both (omega arith) (omega arith)
     ∙ lanes_before c.args.tags.now c.args.first c.args.second c.args.tag c.requires.first c.requires.second

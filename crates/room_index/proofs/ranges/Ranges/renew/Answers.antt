@@ -50,8 +50,8 @@ loop-place-preserved g c = record {
     ]
   ];
   many = elim c.match-at.branch [
-    | in-Some w ↦ ap (λ r. length r.last.items) w.self-is ∙ w.put.ensures.many ∙ c.loop-place.invariant.many
-    | in_default w ↦ ap (λ r. length r.last.items) w.self-is ∙ c.loop-place.invariant.many
+    | in-Some w ↦ ap (λ r. length r.ranks.items) w.self-is ∙ w.put.ensures.more.many ∙ c.loop-place.invariant.many
+    | in_default w ↦ ap (λ r. length r.ranks.items) w.self-is ∙ c.loop-place.invariant.many
   ];
   counter = elim c.match-at.branch [
     | in-Some w ↦ ap (λ v. v.turn) w.visits-is ∙ w.put.ensures.counter ∙ ap (λ v. v.turn) w.pair-pair.ensures.looks ∙ ap (λ v. v.turn) c.at.ensures.look ∙ c.loop-place.invariant.counter

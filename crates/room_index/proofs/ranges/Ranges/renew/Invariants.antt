@@ -9,6 +9,6 @@ invariant-loop-place g l = record {
   ranges : IsByRange l.self;
   within : (e : Filed) → Has l.self e → IsIn l.places e;
   told : (n : ℕ) (e : Filed) → n < l.place → stands l.places n ≡ Some e → IsTold l.self e.pair;
-  many : length l.self.last.items ≡ l.many;
+  many : length l.self.ranks.items ≡ l.many;
   counter : l.visits.turn ≡ l.fn.visits.turn;
 }
