@@ -99,11 +99,16 @@ impl<P: Pair> Places<P> {
         let homes = Homes::of(pair, self.bits);
         let first = PLACES * homes.first;
         let second = PLACES * homes.second;
-        for number in places_before(&self.tags, first, second, homes.tag, visits)..BOTH {
+        let (before, hits) = places_before(&self.tags, first, second, homes.tag, visits);
+        for number in before..BOTH {
             let place = homes.place(number);
             if let Some(entry) = self.tagged(place, homes.tag, visits) {
                 if rooms.pair(entry, visits) == pair {
                     return Some((place, entry.room()));
+                }
+                // mostly no place behind it has the tag
+                if hits >> number <= 1 {
+                    return None;
                 }
             }
         }

@@ -1,7 +1,7 @@
 //! Tags of places, those of a bucket or of two at once.
-ghost use Rattle.std.specs.Prelude.{◌≡◌, ◌+◌, ◌≤◌, ◌==◌, ◌++◌, not, length};
+ghost use Rattle.std.specs.Prelude.{◌≡◌, ◌+◌, ◌≤◌, ◌==◌, ◌++◌, map, not, length};
 ghost use Rattle.std.specs.List.{prefix_len};
-ghost use Rattle.std.specs.Simd.Lanes.{chunk};
+ghost use Rattle.std.specs.Simd.Lanes.{chunk, mask_l};
 
 use radix_nodes::Visits;
 use std::simd::prelude::*;
@@ -13,7 +13,8 @@ pub(crate) const PLACES: usize = 8;
 pub(crate) const BOTH: usize = 2 * PLACES;
 
 /// How many places of two buckets, of which the tags begin there, come before the first with this tag; all of them
-/// where none has it. It reads the tags of all at once, and counts a visit for each.
+/// where none has it. And a number with a bit for each place, the lowest for the first, that is set where it has the
+/// tag. It reads the tags of all at once, and counts a visit for each.
 #[inline(always)]
 pub(crate) fn places_before(
     tags: &[u8],
@@ -21,11 +22,13 @@ pub(crate) fn places_before(
     second: usize,
     tag: u8,
     visits: &mut Visits,
-) -> usize
+) -> (usize, u64)
     requires first { first + PLACES ≤ length tags.now }
     requires second { second + PLACES ≤ length tags.now }
-    ensures before { result
+    ensures before { result.0
         ≡ prefix_len (λ t. not (t == tag)) (chunk first PLACES tags.now ++ chunk second PLACES tags.now) }
+    ensures hits { result.1
+        ≡ mask_l (map (λ t. t == tag) (chunk first PLACES tags.now ++ chunk second PLACES tags.now)) }
     ensures visits { visits.new ≡ record visits.old { count = visits.old.count + BOTH } }
 {
     count(BOTH, visits);
@@ -38,11 +41,12 @@ pub(crate) fn places_before(
         )
         .simd_eq(u8x16::splat(tag))
         .to_bitmask();
-    if hits == 0 {
+    let before = if hits == 0 {
         BOTH
     } else {
         hits.trailing_zeros() as usize
-    }
+    };
+    (before, hits)
 }
 
 /// How many places of a bucket, of which the tags begin there, come before the first free one; all of them where none
