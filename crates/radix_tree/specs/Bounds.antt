@@ -30,7 +30,7 @@ way_reads = width
 abbrev pub chain_reads : ℕ
 chain_reads = ranks
 
--- of a search for a key and a rank: a way down, and the chain at its end
+-- of a search for a key and a rank: a way down, and the chain at its end; by the index fewer, `index_reads`
 abbrev pub pair_reads : ℕ
 pair_reads = way_reads + chain_reads
 

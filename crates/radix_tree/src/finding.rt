@@ -100,8 +100,8 @@ fn best_by_rank<V>(
     None
 }
 
-/// The ranks that are left to be asked for, once so many were in vain: of those the ones near the address, where that
-/// is worth the look.
+/// The ranks that are left to be asked for, once so many were in vain: after the first of these only such as routes near
+/// the address have.
 #[inline(always)]
 fn ranks_left(index: &Index, ranks: Ranks, asked: u8, address: Inet, visits: &mut Visits) -> Ranks
     ensures kept { (rank : ℕ) (room : IdName) → rank ≤ 33 → Names index.now (pair (masked_by rank address) rank) room

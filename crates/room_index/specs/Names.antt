@@ -8,7 +8,8 @@ use Rattle.room_index.specs.declared.index.Vacancy.{Vacancy}
 use Rattle.room_index.specs.declared.places.Places.{Places}
 use Rattle.room_index.specs.declared.ranges.Ranges.{Ranges}
 
--- an index as contracts see it: whether it has a room for each pair that was entered and not struck out, and its places
+-- an index as contracts see it: whether it has a room for each pair that was entered since it was made, or began anew, and
+-- not struck out; and its places
 pub record Held : Type 0 where
   pub whole : Bool
   pub bits : ℕ
@@ -46,7 +47,7 @@ pub record Keeps (old new : Held) : Type 0 where
   pub fewer : (k : ℕ) (r : Id) → Names new k r → Names old k r
   pub kept : new.whole ≡ true → (old.whole ≡ true) × ((k : ℕ) (r : Id) → Names old k r → Names new k r)
 
--- it has the room of one pair more; or it was given up, and has no room at all
+-- it has the room of one pair more; or it was given up
 pub record Enters (old new : Held) (pair : ℕ) (room : Id) : Type 0 where
   pub only : (k : ℕ) (r : Id) → Names new k r → ((k ≡ pair) × (r ≡ room)) ⊎ Names old k r
   pub more : new.whole ≡ true → (old.whole ≡ true) × Names new pair room

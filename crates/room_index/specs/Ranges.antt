@@ -20,7 +20,7 @@ entry_of (Some last) = last
 
 module _ {P : Type 0} where
   -- ---- the entry that is near
-  -- which of them a pair has: of two ranges one, by the last ones of a few bits more
+  -- the slot of a pair: of the first bits of its key, `finer` more than number a range, the last ones, but for the very last
   abbrev pub slot_of : Ranges P → ℕ → ℕ
   slot_of r pair = pair / 2 ^ (38 - (r.bits + r.finer)) % 2 ^ r.bits / 2
 

@@ -15,7 +15,7 @@ impl<P: Pair> Places<P> {
     /// A place that is free for an entry of a pair, in one of its homes. `None` where there is none: then all are given
     /// up.
     ///
-    /// The pair is written there ahead of its room, so that the memory of the place, which hardly ever is at hand,
+    /// An entry without a room is written there ahead, so that the memory of the place, which hardly ever is at hand,
     /// comes while that of the tree is waited for.
     #[inline(always)]
     pub(crate) fn place_for<R: Rooms<P>>(

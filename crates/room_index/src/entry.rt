@@ -5,7 +5,8 @@ use radix_nodes::Id;
 use std::marker::Model;
 use std::snapshot::Snapshot;
 
-/// What an entry has of its pair: the pair's number; or, where its room tells that one, nothing but what clauses see.
+/// What an entry has of its pair: the pair's number, which is 64 times the key, and the rank; or, where its room tells
+/// that one, nothing but what clauses see.
 pub trait Pair: Drop {
     ghost number: { Self → ℕ };
 
@@ -57,7 +58,7 @@ impl<P: Pair> Entry<P> {
         }
     }
 
-    /// Of a pair that has no room yet. It is what free places are filled with.
+    /// Of a pair, without a room yet. It is what free places are filled with.
     #[inline(always)]
     pub(crate) fn ahead(pair: u64) -> Entry<P>
         ensures { result.pair ≡ pair }

@@ -6,7 +6,8 @@ use crate::tags::{BOTH, PLACES};
 use mask_table::Rank;
 use sock_addrs::Inet;
 
-/// The most bits of a bucket's number. A number of 64 bits tells both buckets of a pair, and its tag.
+/// The most bits of a bucket's number. Of a number of 64 bits the lowest tell the first bucket of a pair, those behind
+/// the first 24 the second one, and the highest eight the tag.
 pub(crate) const MOST_BITS: u32 = 24;
 
 /// How many bits the number of a pair has: those of a key, and six of a rank.

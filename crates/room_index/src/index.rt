@@ -71,7 +71,7 @@ impl<P: Pair> RoomIndex<P> {
         }
     }
 
-    /// Whether each route that was entered, and not struck out, is in it.
+    /// Whether each route that was entered since it was made, or began anew, and not struck out is in it.
     pub fn is_whole(&self) -> bool
         ensures { result ≡ self.now.whole }
     {
@@ -250,7 +250,7 @@ impl<P: Pair> RoomIndex<P> {
         self.ranges.follow(&self.places, rooms, visits);
     }
 
-    /// Has no room of any pair, and no memory, and is whole.
+    /// Has no room of any pair, and no memory, and is whole: for a caller who has no route left.
     pub fn begin_anew(&mut self)
         ensures none { (k : ℕ) (room : Room) → Names self.new k room → ⊥ }
         ensures whole { self.new.whole ≡ true }

@@ -59,8 +59,8 @@ impl<P: Pair> Last<P> {
         self.is_there
     }
 
-    /// Its room, where few pairs share the slot, and the keys differ in the last bits alone of those by which slots are
-    /// parted, behind which so many are left.
+    /// Its room, where few pairs share the slot, and its key differs from this one at most in the last three bits that
+    /// part slots; `left` is how many bits a key has behind these.
     #[inline(always)]
     pub(crate) fn room_beside(&self, key: u32, left: u32) -> Option<Id>
         requires { left ≤ 33 }

@@ -20,12 +20,16 @@ use std::mem;
 /// How many places there are at first, those of four buckets.
 pub(crate) const FEWEST: usize = 32;
 
-/// How many entries and tags there is memory for beside those that are there: 48 bytes, of rooms alone. With what the C library puts
-/// before it each block is then as long as whole lines of the cache, so that rooms which are made after it lie in their
-/// lines as those before.
+/// How many entries there is memory for beside those that are there: 48 bytes, where an entry is the name of a room. With
+/// what the C library puts before it each block is then as long as whole lines of the cache, so that rooms which are
+/// made after it lie in their lines as those before.
 const ENTRIES_BESIDE: usize = 6;
 
+/// How many tags, likewise.
 const TAGS_BESIDE: usize = 48;
+
+/// Beside the first tags it takes as many more.
+const FIRST_TAGS_BESIDE: usize = TAGS_BESIDE + FEWEST;
 
 /// Places for entries, eight to each of 2^`bits` buckets, or none yet. Beside each entry, in a list of its own, stands
 /// its tag, or 0 where the place is free: so the tags of a bucket are read at once.
@@ -168,7 +172,7 @@ impl<P: Pair> Places<P> {
 
     // ---- what changes
 
-    /// Writes a pair into a free place ahead of its room. The place is free still.
+    /// Writes an entry of a pair, without a room yet, into a free place. The place is free still.
     #[inline(always)]
     pub(crate) fn write_ahead(&mut self, place: usize, pair: u64)
         requires within { place < length self.old.entries.items }
@@ -209,7 +213,7 @@ impl<P: Pair> Places<P> {
         self.entries[place] = entry;
     }
 
-    /// Frees a place in which an entry stands, and gives that one.
+    /// Frees a place in which an entry stands, and gives that one, at which its callers have looked.
     fn free(&mut self, place: usize) -> Entry<P>
         requires within { place < length self.old.tags.items }
         requires even { length self.old.entries.items ≡ length self.old.tags.items }
@@ -282,7 +286,7 @@ impl<P: Pair> Places<P> {
     {
         if self.tags.is_empty() {
             memory.reserve(&mut self.entries, FEWEST + ENTRIES_BESIDE)?;
-            memory.reserve(&mut self.tags, FEWEST + TAGS_BESIDE)?;
+            memory.reserve(&mut self.tags, FEWEST + FIRST_TAGS_BESIDE)?;
         } else if self.bits < MOST_BITS {
             memory.double(&mut self.entries, ENTRIES_BESIDE)?;
             memory.double(&mut self.tags, TAGS_BESIDE)?;

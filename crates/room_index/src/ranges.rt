@@ -26,8 +26,10 @@ use std::alloc::{AllocError, Global};
 /// How many ranges there are at first.
 const FEWEST: usize = 8;
 
-/// So many ranges have one slot.
-const EACH: usize = 2;
+/// So many ranges have one slot: their numbers differ in so many bits at the end.
+const EACH: usize = 1 << EACH_BITS;
+
+const EACH_BITS: u32 = 1;
 
 /// How many there is memory for beside those that are there: 48 bytes, as of the places.
 const LAST_BESIDE: usize = 3;
@@ -45,7 +47,8 @@ const WIDEST: u32 = 6;
 /// Of each of 2^`bits` ranges the ranks of all that are there, or were, so that no other rank is asked for. And of each
 /// of half as many slots the entry that came last, or any where none has come since their number changed, so that a pair
 /// that is to come finds one whose key begins as its own does. Where all keys are of a few ranges the pairs of one are
-/// too many to be near each other: so those of a slot share `finer` bits more, of which the last ones number it.
+/// too many to be near each other: so slots are numbered by as many bits of the key behind its first `finer`, which a
+/// look at a slot compares.
 #[derive(Drop)]
 pub(crate) struct Ranges<P: Pair> {
     last: Vec<Last<P>>,

@@ -1,13 +1,13 @@
 //! Who tells which pair an entry is of.
-ghost use Rattle.std.specs.Prelude.{◌≡◌, ℕ, ◌+◌, ◌≤◌};
-ghost use Rattle.std.proofs.Common.{rules};
+ghost use Rattle.std.specs.Prelude.{◌≡◌, ℕ, ◌+◌};
 
 use crate::entry::{Entry, Pair};
 use crate::homes::pair_of;
 use radix_nodes::{Nodes, Visits};
 use std::snapshot::Snapshot;
 
-/// Tells the pairs of entries.
+/// Tells the pairs of entries: the entries themselves, or the rooms that they name. There are no others, since what is in
+/// an entry is seen here alone.
 pub trait Rooms<P: Pair> {
     ghost use Rattle.room_index.specs.Filed.{Filed};
 
@@ -26,8 +26,6 @@ pub trait Rooms<P: Pair> {
         requires turn { IsTurn self.now visits.old.turn }
         ensures pair { result ≡ entry.now.pair }
         ensures looks { visits.new ≡ record visits.old { count = visits.old.count + looks } };
-
-    ghost few: { looks ≤ 1 };
 }
 
 /// The room of an entry has its key and its rank, as a leaf.
@@ -39,8 +37,6 @@ impl<V> Rooms<Snapshot<u64>> for Nodes<V> {
     ghost IsTurn = { λ n turn. turn ≡ n.turn };
 
     ghost looks = { 1 };
-
-    ghost few = { Prim.search rules };
 
     #[inline(always)]
     fn pair(&self, entry: &Entry<Snapshot<u64>>, visits: &mut Visits) -> u64 {

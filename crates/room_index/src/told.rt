@@ -1,6 +1,5 @@
 //! An index whose entries tell their pairs themselves: it can be asked without the rooms.
 ghost use Rattle.std.specs.Prelude.{◌≡◌, ℕ, ◌+◌, ◌≤◌, false, true, IfSome, MatchOption, is_err, nat_le};
-ghost use Rattle.std.proofs.Common.{rules};
 ghost use Rattle.mask_table.specs.Agreeing.{masked};
 ghost use Rattle.mask_table.specs.RankSets.{HasRank};
 ghost use Rattle.memory.specs.Refusing.{Rises};
@@ -31,15 +30,15 @@ impl Rooms<u64> for Told {
 
     ghost looks = { 0 };
 
-    ghost few = { Prim.search rules };
-
     #[inline(always)]
     fn pair(&self, entry: &Entry<u64>, _visits: &mut Visits) -> u64 {
         entry.pair
     }
 }
 
-/// As a `RoomIndex`, with sixteen bytes to an entry where that one has eight.
+/// The index whose entries tell their pairs themselves, sixteen bytes each where those of rooms alone have eight. It is
+/// kept with its calls and contracts for callers who have no rooms to hand; here the crate's tests ask it, and a routing
+/// table asks a `RoomIndex<Snapshot<u64>>`.
 #[derive(Drop)]
 pub struct Index {
     pub(crate) rooms: RoomIndex<u64>,
@@ -64,7 +63,7 @@ impl Index {
         }
     }
 
-    /// Whether each route that was entered, and not struck out, is in it.
+    /// Whether each route that was entered since it was made, or began anew, and not struck out is in it.
     pub fn is_whole(&self) -> bool
         ensures { result ≡ self.now.whole }
     {
@@ -155,7 +154,7 @@ impl Index {
         self.rooms.enter(vacancy, key, rank, room, visits);
     }
 
-    /// Strikes the room of a route out. Where no route is left, the index is whole again.
+    /// Strikes the room of a route out. Where no route is left, as `rest` says, the index begins anew and is whole.
     pub fn strike(&mut self, key: Inet, rank: Rank, rest: bool, visits: &mut Visits)
         ensures struck { Strikes self.old self.new (pair key rank) rest }
         ensures once { (one other : Room) → Names self.old (pair key rank) one → Names self.old (pair key rank) other

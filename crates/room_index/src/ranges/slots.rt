@@ -5,14 +5,14 @@ ghost use Rattle.room_index.specs.Filed.{Filed};
 ghost use Rattle.room_index.specs.Looks.{Reads, near_looks};
 ghost use Rattle.room_index.specs.Ranges.{last_in, slot_of, Has, IsByRange, KeepsOthers};
 
-use super::{EACH, KEY_BITS, Ranges};
+use super::{EACH, EACH_BITS, KEY_BITS, Ranges};
 use crate::entry::Pair;
 use crate::homes::{MOST_BITS, PAIR_BITS, key_of, low_bits};
 use crate::last::{BESIDE, Last};
 use radix_nodes::{Id, Visits};
 
 impl<P: Pair> Ranges<P> {
-    /// By how many bits at its end a pair's number is more than the key's bits that the pairs of a slot share.
+    /// How many bits of a pair's number are behind the first `bits + finer` of its key. The last of these parts no slots.
     #[inline(always)]
     fn rest(&self) -> u32
         requires { self.now.bits + self.now.finer ≤ KEY_BITS }
@@ -51,8 +51,8 @@ impl<P: Pair> Ranges<P> {
         None
     }
 
-    /// The room of the pair that such a slot has, where its key and this one differ in the last bits alone of those by
-    /// which slots are parted. It is one look.
+    /// The room of the pair that such a slot has, where its key differs from this one at most in the last three bits that
+    /// part slots. It is one look.
     #[inline(always)]
     fn near_in(&self, slot: usize, key: u32, visits: &mut Visits) -> Option<Id>
         requires { self.now.bits + self.now.finer ≤ KEY_BITS }
@@ -63,7 +63,7 @@ impl<P: Pair> Ranges<P> {
         if slot >= self.last.len() {
             return None;
         }
-        let left = KEY_BITS - (self.bits + self.finer) + 1;
+        let left = KEY_BITS - (self.bits + self.finer) + EACH_BITS;
         self.last[slot].room_beside(key, left)
     }
 
