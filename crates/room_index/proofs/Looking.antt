@@ -49,8 +49,8 @@ module _ (h : Homes) where
         → slice_index tags (place_of h k) ≡ tag → ⊥
     none_behind tag hits number k is last behind within at =
         let set : hits / 2 ^ k % 2 ≡ 1 = ap (λ n. n / 2 ^ k % 2) is ∙ bit_mask_l (map (λ t. t == tag) tags_of) k
-            ∙ ap (λ b. cond b 1 0) (get_or-map (λ t. t == tag) tags_of k 0 false (omega (arith, long, within)) ∙ ap (λ t. t == tag) (tag_at k within)
-            ∙ eq-eqb (slice_index tags (place_of h k)) tag at) in
+        ∙ ap (λ b. cond b 1 0) (get_or-map (λ t. t == tag) tags_of k 0 false (omega (arith, long, within)) ∙ ap (λ t. t == tag) (tag_at k within)
+        ∙ eq-eqb (slice_index tags (place_of h k)) tag at) in
         let far : k ≡ number + (k - number) = omega (arith, behind) in
         let less : hits / 2 ^ number / 2 ^ (k - number) ≡ 0 = div-eq_of_lt (omega (arith, last, pow_mono {i = 1} {j = k - number} (omega (arith, behind)))) in
         omega (arith, set, ap (λ n. hits / 2 ^ n) far ∙ sym (shr-shr hits number (k - number)) ∙ less)
