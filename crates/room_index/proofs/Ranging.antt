@@ -45,6 +45,10 @@ module _ (items : List (Option Filed)) (slot of : ℕ) (was now : Option Filed) 
     | inr other ↦ (sym (ap entry_of (set_there items slot now n other)) ∙ has, λ same. absurd (other same))
   ]
 
+-- the pair and the room of an entry are all of it
+pub read : (e : Filed) {pair : ℕ} {room : Id} → pair ≡ e.pair → room ≡ e.room → e ≡ record { pair = pair; room = room }
+read e {pair} of at = ap (λ k. record { pair = k; room = e.room }) (sym of) ∙ ap (λ r. record { pair = pair; room = r }) (sym at)
+
 -- a list of nothing has none
 pub none_in : (items : List (Option Filed)) → All (λ last. last ≡ None) items → (n : ℕ) (e : Filed) → entry_of (slice_get items n) ≡ Some e → ⊥
 none_in items all n e at = elim (slice_get_cases items n).1 [

@@ -183,8 +183,7 @@ impl<P: Pair> RoomIndex<P> {
         if self.given_up {
             return None;
         }
-        self.places.grow(rooms, visits);
-        self.ranges.follow(&self.places, rooms, visits);
+        self.places.grow(&mut self.ranges, rooms, visits);
         let pair = pair_of(key, rank);
         let Some(place) = self.places.place_for(pair, rooms, visits) else {
             self.ranges.clear();

@@ -1,5 +1,5 @@
 //! Which ranks the pairs of each range of keys have, and of each slot the last pair that came into it.
-ghost use Rattle.std.specs.Prelude.{◌≡◌, ℕ, ◌+◌, ◌/◌, ◌<◌, ◌≤◌, ◌==◌, ◌⊎◌, is_err, length, slice_index, vec_capacity, IfSome, OnOk, Some, None, []};
+ghost use Rattle.std.specs.Prelude.{◌≡◌, ℕ, ◌+◌, ◌/◌, ◌^◌, ◌<◌, ◌≤◌, ◌==◌, ◌⊎◌, ◌&&◌, is_err, length, nat_le, slice_index, vec_capacity, IfSome, OnOk, Some, None, []};
 ghost use Rattle.std.specs.List.{All};
 ghost use Rattle.mask_table.specs.RankSets.{HasRank};
 ghost use Rattle.memory.specs.Refusing.{Rises};
@@ -245,10 +245,7 @@ impl<P: Pair> Ranges<P> {
         ensures counter { visits.new.turn ≡ visits.old.turn }
     {
         let many = places.many() / PLACES;
-        if many != self.many()
-            && many / EACH <= self.last.capacity()
-            && many <= self.ranks.capacity()
-        {
+        if many != self.many() && self.is_reserved(many) {
             self.renew(many, places, rooms, visits);
         }
     }
@@ -275,8 +272,7 @@ impl<P: Pair> Ranges<P> {
         ensures many { length self.new.ranks.items ≡ many }
         ensures counter { visits.new.turn ≡ visits.old.turn }
     {
-        let finer = finer_by(self.finer, places.used(), self.used(visits));
-        self.begin(many, places.bits, finer.min(KEY_BITS - places.bits));
+        self.begin(many, places.bits, places.used(), visits);
         for place in 0..places.many() {
             if let Some(entry) = places.at(place, visits) {
                 let pair = rooms.pair(entry, visits);
@@ -285,16 +281,43 @@ impl<P: Pair> Ranges<P> {
         }
     }
 
-    /// So many ranges, which have no entry.
-    fn begin(&mut self, many: usize, bits: u32, finer: u32)
+    /// Begins anew for a table of 2^`bits` buckets in which so many entries stand, with as many ranges, where there is
+    /// memory for them.
+    pub(crate) fn begin_for(&mut self, bits: u32, entries: usize, visits: &mut Visits)
         requires bits { bits ≤ MOST_BITS }
-        requires finer { bits + finer ≤ KEY_BITS }
+        requires ranges { IsByRange self.old }
+        ensures ranges { IsByRange self.new }
+        ensures fewer { (e : Filed) → Has self.new e → Has self.old e }
+        ensures many { 2 ^ bits / EACH ≤ vec_capacity self.old.last → 2 ^ bits ≤ vec_capacity self.old.ranks
+            → length self.new.ranks.items ≡ 2 ^ bits }
+        ensures counter { visits.new.turn ≡ visits.old.turn }
+    {
+        let many = 1 << bits;
+        if self.is_reserved(many) {
+            self.begin(many, bits, entries, visits);
+        }
+    }
+
+    /// Whether there is memory for so many.
+    fn is_reserved(&self, many: usize) -> bool
+        ensures { result ≡ (nat_le (many / EACH) (vec_capacity self.now.last)
+            && nat_le many (vec_capacity self.now.ranks)) }
+    {
+        many / EACH <= self.last.capacity() && many <= self.ranks.capacity()
+    }
+
+    /// So many ranges, none of which knows an entry, for so many entries that are to come.
+    fn begin(&mut self, many: usize, bits: u32, entries: usize, visits: &mut Visits)
+        requires bits { bits ≤ MOST_BITS }
+        requires finer { self.old.finer ≤ KEY_BITS }
         requires last { many / EACH ≤ vec_capacity self.old.last }
         requires ranks { many ≤ vec_capacity self.old.ranks }
         ensures ranges { IsByRange self.new }
         ensures none { HasNone self.new }
         ensures many { length self.new.ranks.items ≡ many }
+        ensures counter { visits.new.turn ≡ visits.old.turn }
     {
+        let finer = finer_by(self.finer, entries, self.used(visits)).min(KEY_BITS - bits);
         let fewer = many < self.many();
         self.last.clear();
         fill(&mut self.last, many / EACH);

@@ -1,11 +1,14 @@
 //! How the table of places becomes larger and smaller.
-ghost use Rattle.std.specs.Prelude.{◌≡◌, ◌+◌, ◌*◌, ◌/◌, ◌^◌, ◌<◌, ◌≤◌, ◌⊎◌, ◌&&◌, [], true, false, None, IfSome, length, nat_le, nat_lt};
-ghost use Rattle.room_index.specs.Places.{stands, AllAre, AreFiled, HasSamePlaces, HaveSame, IsCounted, IsHome, IsTable};
+ghost use Rattle.std.specs.Prelude.{◌≡◌, ℕ, ◌+◌, ◌*◌, ◌/◌, ◌^◌, ◌<◌, ◌≤◌, ◌⊎◌, ◌&&◌, [], true, false, None, Some, IfSome, length, nat_le, nat_lt};
+ghost use Rattle.room_index.specs.Filed.{Filed};
+ghost use Rattle.room_index.specs.Places.{stands, AllAre, AreFiled, HasSamePlaces, HaveSame, IsCounted, IsHome, IsIn, IsTable};
+ghost use Rattle.room_index.specs.Ranges.{AreTold, Has, IsByRange, IsTold, TellsMore};
 ghost use Rattle.room_index.specs.Sizes.{Folds, IsReserved, Parts, more_places};
 
 use crate::entry::Pair;
 use crate::homes::{Homes, MOST_BITS};
 use crate::places::{FEWEST, Places};
+use crate::ranges::Ranges;
 use crate::rooms::Rooms;
 use crate::tags::{BOTH, PLACES};
 use radix_nodes::Visits;
@@ -35,17 +38,28 @@ impl<P: Pair> Places<P> {
     }
 
     /// Makes the table larger, where its entries are many for it, and the memory of a larger one was asked for. The new
-    /// places are free.
+    /// places are free. The ranges become as many, where there is memory for them.
     #[inline(always)]
-    pub(crate) fn grow<R: Rooms<P>>(&mut self, rooms: &R, visits: &mut Visits)
+    pub(crate) fn grow<R: Rooms<P>>(
+        &mut self,
+        ranges: &mut Ranges<P>,
+        rooms: &R,
+        visits: &mut Visits,
+    )
         requires table { IsTable self.old }
         requires known { AllAre (R.Knows rooms.now) self.old }
         requires turn { R.IsTurn rooms.now visits.old.turn }
+        requires ranges { IsByRange ranges.old }
+        requires within { (e : Filed) → Has ranges.old e → IsIn self.old e }
+        requires told { AreTold ranges.old self.old }
         ensures table { IsTable self.new }
         ensures same { HaveSame self.old self.new }
         ensures larger { nat_le (length self.old.tags.items / PLACES) (self.old.used / DENSE) ≡ true
             → IsReserved self.old
             → self.old.bits < MOST_BITS → length self.new.tags.items ≡ length self.old.tags.items + more_places self.old }
+        ensures ranges { IsByRange ranges.new }
+        ensures within { (e : Filed) → Has ranges.new e → IsIn self.new e }
+        ensures told { AreTold ranges.new self.new }
         ensures counter { visits.new.turn ≡ visits.old.turn }
     {
         if !self.is_dense() || self.bits == MOST_BITS || !self.is_reserved() {
@@ -54,7 +68,7 @@ impl<P: Pair> Places<P> {
         if self.many() == 0 {
             self.begin();
         } else {
-            self.double(rooms, visits);
+            self.double(ranges, rooms, visits);
         }
     }
 
@@ -73,30 +87,45 @@ impl<P: Pair> Places<P> {
         self.bits = FEWEST_BITS;
     }
 
-    /// Makes as many places more: each entry stays, or moves on by so many.
+    /// Makes as many places more: each entry stays, or moves on by so many. The ranges begin anew, as many as there are
+    /// buckets then, and each entry is told them as it is passed: so its room is read once.
     #[inline(never)]
-    fn double<R: Rooms<P>>(&mut self, rooms: &R, visits: &mut Visits)
+    fn double<R: Rooms<P>>(&mut self, ranges: &mut Ranges<P>, rooms: &R, visits: &mut Visits)
         requires table { IsTable self.old }
         requires known { AllAre (R.Knows rooms.now) self.old }
         requires turn { R.IsTurn rooms.now visits.old.turn }
         requires some { 0 < length self.old.tags.items }
         requires few { self.old.bits < MOST_BITS }
         requires reserved { IsReserved self.old }
+        requires ranges { IsByRange ranges.old }
+        requires within { (e : Filed) → Has ranges.old e → IsIn self.old e }
         ensures table { IsTable self.new }
         ensures same { HaveSame self.old self.new }
         ensures larger { length self.new.tags.items ≡ 2 * length self.old.tags.items }
+        ensures ranges { IsByRange ranges.new }
+        ensures within { (e : Filed) → Has ranges.new e → IsIn self.new e }
+        ensures told { AreTold ranges.new self.new }
         ensures counter { visits.new.turn ≡ visits.old.turn }
     {
         let many = self.many();
         self.lengthen(2 * many);
+        ranges.begin_for(self.bits + 1, self.used(), visits);
         for place in 0..many {
-            self.part(place, many, rooms, visits);
+            self.part(place, many, ranges, rooms, visits);
         }
         self.bits += 1;
     }
 
-    /// Moves the entry of a place on by so many places, where it isn't at home there among twice as many buckets.
-    fn part<R: Rooms<P>>(&mut self, place: usize, many: usize, rooms: &R, visits: &mut Visits)
+    /// Tells the ranges the entry of a place, and moves it to its place among twice as many buckets.
+    #[inline(always)]
+    fn part<R: Rooms<P>>(
+        &mut self,
+        place: usize,
+        many: usize,
+        ranges: &mut Ranges<P>,
+        rooms: &R,
+        visits: &mut Visits,
+    )
         requires known { AllAre (R.Knows rooms.now) self.old }
         requires turn { R.IsTurn rooms.now visits.old.turn }
         requires many { many ≡ 8 * 2 ^ self.old.bits }
@@ -106,19 +135,26 @@ impl<P: Pair> Places<P> {
         requires within { place < many }
         requires filed { AreFiled self.old (Parts self.old.bits many place) }
         requires used { IsCounted self.old }
+        requires ranges { IsByRange ranges.old }
         ensures filed { AreFiled self.new (Parts self.old.bits many (place + 1)) }
         ensures used { IsCounted self.new }
         ensures same { HaveSame self.old self.new }
+        ensures left { (n : ℕ) → place < n → n < many → stands self.new n ≡ stands self.old n }
         ensures places { HasSamePlaces self.old self.new }
+        ensures ranges { IsByRange ranges.new }
+        ensures only { (e : Filed) → Has ranges.new e → IsIn self.old e ⊎ Has ranges.old e }
+        ensures told { (e : Filed) → stands self.old place ≡ Some e → IsTold ranges.new e.pair }
+        ensures more { TellsMore ranges.old ranges.new }
         ensures counter { visits.new.turn ≡ visits.old.turn }
     {
         let Some(entry) = self.at(place, visits) else {
             return;
         };
         let pair = rooms.pair(entry, visits);
-        if !Homes::of(pair, self.bits + 1).has(place / PLACES) {
-            self.move_to(place, place + many, visits);
-        }
+        ranges.put(pair, entry.room(), visits);
+        // also where it stays: a branch would be guessed wrong half the time, and then all wait for the room's memory
+        let to = parted_place(place, many, pair, self.bits);
+        self.move_to(place, to, visits);
     }
 
     /// Makes the table smaller, where its entries are few for it. `false` where one finds no place there: then all are
@@ -213,5 +249,23 @@ impl<P: Pair> Places<P> {
             Some(free) => Some(free),
             None => self.free_in(Homes::of(pair, self.bits).beside(home), visits),
         }
+    }
+}
+
+/// Where among twice as many buckets an entry of a pair is at home that stands in a place of so many: there, or so many
+/// places on.
+#[inline(always)]
+fn parted_place(place: usize, many: usize, pair: u64, bits: u32) -> usize
+    requires few { bits < MOST_BITS }
+    requires many { many ≡ 8 * 2 ^ bits }
+    requires within { place < many }
+    requires home { IsHome bits place pair }
+    ensures home { IsHome (bits + 1) result pair }
+    ensures there { (result ≡ place) ⊎ (result ≡ place + many) }
+{
+    if Homes::of(pair, bits + 1).has(place / PLACES) {
+        place
+    } else {
+        place + many
     }
 }

@@ -9,14 +9,8 @@ use Rattle.room_index.proofs.index.RoomIndex.vacancy.Goals as goal
 pub grow-requires-clause-known : goal.grow-requires-clause-known
 grow-requires-clause-known g c = known_in c.self.inside.places (not c.self.inside.given_up) (g.R.Rooms.Knows c.args.rooms.now) c.self.view_is c.requires.known
 
-pub follow-requires-clause-known : goal.follow-requires-clause-known
-follow-requires-clause-known g c e at = known_in c.self.inside.places (not c.self.inside.given_up) (g.R.Rooms.Knows c.args.rooms.now) c.self.view_is c.requires.known e (c.grow.ensures.same.had e at)
-
 pub place_for-requires-clause-known : goal.place_for-requires-clause-known
 place_for-requires-clause-known g c e at = known_in c.self.inside.places (not c.self.inside.given_up) (g.R.Rooms.Knows c.args.rooms.now) c.self.view_is c.requires.known e (c.grow.ensures.same.had e at)
-
-pub follow-requires-clause-told : goal.follow-requires-clause-told
-follow-requires-clause-told g c = told_fewer c.self.inside.ranges c.self.inside.places c.grow.new.self c.self.invariant.told c.grow.ensures.same.had
 
 pub returns-clause-keeps : goal.returns-clause-keeps
 returns-clause-keeps g c =
@@ -42,8 +36,8 @@ invariant_of-self-2 g c =
       table = c.place_for.ensures.table;
       -- it wasn't given up
       none = λ up. absurd (true≢false (sym up ∙ c.if-self.false));
-      by_range = same_by_range c.follow.new.self c.tell.new.self c.follow.ensures.ranges c.tell.ensures.last;
-      within = λ e has. found.kept e (c.follow.ensures.within e (search rules));
-      told = λ e at. told_more c.follow.new.self c.tell.new.self e.pair c.tell.ensures.more
-          (told_fewer c.follow.new.self c.grow.new.self c.place_for.new.self c.follow.ensures.told found.had e at);
+      by_range = same_by_range c.grow.new.ranges c.tell.new.self c.grow.ensures.ranges c.tell.ensures.last;
+      within = λ e has. found.kept e (c.grow.ensures.within e (search rules));
+      told = λ e at. told_more c.grow.new.ranges c.tell.new.self e.pair c.tell.ensures.more
+          (told_fewer c.grow.new.ranges c.grow.new.self c.place_for.new.self c.grow.ensures.told found.had e at);
     }

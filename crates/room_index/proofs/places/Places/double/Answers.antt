@@ -1,9 +1,11 @@
-use Rattle.std.proofs.Common.{◌≡◌, ◌+◌, ◌*◌, ◌^◌, ap, subst, sym, ◌∙◌, refl, arith}
+use Rattle.std.proofs.Common.{◌≡◌, ◌+◌, ◌*◌, ◌^◌, ap, subst, sym, ◌∙◌, refl, inl, inr, arith}
+use Rattle.std.proofs.lemmas.Bool.{cases_eq}
 use Rattle.room_index.proofs.Filing.{filed_as, same_as, same_then}
 use Rattle.room_index.proofs.HomeLemmas.{twice}
+use Rattle.room_index.proofs.Ranging.{told_more}
 use Rattle.room_index.proofs.Sizing.{parts_begin, parts_end}
 use Rattle.room_index.proofs.Standing.{stands_within}
-use Rattle.room_index.specs.Places.{AreFiled, IsHome}
+use Rattle.room_index.specs.Places.{stands, AreFiled, IsHome}
 use Rattle.room_index.specs.Sizes.{Parts}
 use Rattle.room_index.proofs.places.Places.double.Goals as goal
 
@@ -18,8 +20,12 @@ loop-place-init g c =
       filed = parts_begin c.lengthen.new.self p.bits c.many-many.result filed (λ n e at.
           omega (arith, stands_within p.tags.items p.entries.items n {e = e} (sym (c.lengthen.ensures.places.stand n) ∙ at), c.requires.table.size.even, c.many-many.ensures));
       same = same_as p c.lengthen.new.self c.lengthen.ensures.places.stand;
+      left = λ n behind low. c.lengthen.ensures.places.stand n;
       used = c.lengthen.ensures.used;
-      counter = refl;
+      ranges = c.begin_for.ensures.ranges;
+      within = λ e has. c.requires.within e (c.begin_for.ensures.fewer e has);
+      told = λ n e before at. absurd (omega arith);
+      counter = c.begin_for.ensures.counter;
     }
 
 pub loop-place-preserved : goal.loop-place-preserved
@@ -31,7 +37,17 @@ loop-place-preserved g c =
       entries = c.part.ensures.places.entries ∙ was.entries;
       filed = subst (λ b. AreFiled c.part.new.self (Parts b c.many-many.result (c.loop-place.place + 1))) was.bits c.part.ensures.filed;
       same = same_then c.args.self.now c.loop-place.self c.part.new.self was.same c.part.ensures.same;
+      left = λ n behind low. c.part.ensures.left n (omega arith) low ∙ was.left n (omega arith) low;
       used = c.part.ensures.used;
+      ranges = c.part.ensures.ranges;
+      within = λ e has. elim (c.part.ensures.only e has) [
+        | inl own ↦ was.same.had e own
+        | inr had ↦ was.within e had
+      ];
+      told = λ n e before at. elim (cases_eq n c.loop-place.place) [
+        | inl same ↦ c.part.ensures.told e (was.left c.loop-place.place (omega arith) (omega arith) ∙ ap (stands c.args.self.now) (sym same) ∙ at)
+        | inr other ↦ told_more c.loop-place.ranges c.part.new.ranges e.pair c.part.ensures.more (was.told n e (omega arith) at)
+      ];
       counter = c.part.ensures.counter ∙ was.counter;
     }
 
@@ -52,3 +68,17 @@ returns-clause-table g c =
       filed = filed_as c.loop-place.self _ (IsHome (c.loop-place.self.bits + 1)) (subst (λ b. AreFiled c.loop-place.self (IsHome (b + 1))) (sym is.bits) filed)
           (λ n. refl) (λ n e at. refl);
     }
+
+-- all that was there has been passed
+pub returns-clause-told : goal.returns-clause-told
+returns-clause-told g c e at =
+    let p = c.args.self.now in
+    let stood = c.loop-place.invariant.same.had e at in
+    c.loop-place.invariant.told stood.0 e
+    (omega (arith, c.loop-place-test.false, c.many-many.ensures, c.requires.table.size.even, stands_within p.tags.items p.entries.items stood.0 {e = e} stood.1)) stood.1
+
+pub returns-clause-within : goal.returns-clause-within
+returns-clause-within g c e has = c.loop-place.invariant.same.kept e (c.loop-place.invariant.within e has)
+
+pub part-requires-clause-known : goal.part-requires-clause-known
+part-requires-clause-known g c e at = c.requires.known e (c.loop-place.invariant.same.had e at)

@@ -1,5 +1,7 @@
-use Rattle.std.proofs.Common.{◌≡◌, ◌*◌, length}
-use Rattle.room_index.specs.Places.{AreFiled, HaveSame, IsCounted}
+use Rattle.std.proofs.Common.{◌≡◌, ℕ, ◌*◌, ◌<◌, ◌≤◌, Some, length}
+use Rattle.room_index.specs.Filed.{Filed}
+use Rattle.room_index.specs.Places.{stands, AreFiled, HaveSame, IsCounted, IsIn}
+use Rattle.room_index.specs.Ranges.{Has, IsByRange, IsTold}
 use Rattle.room_index.specs.Sizes.{Parts}
 use Rattle.room_index.proofs.places.Places.double.Given as goal
 
@@ -10,6 +12,10 @@ invariant-loop-place g l = record {
   entries : length l.self.entries.items ≡ 2 * l.many;
   filed : AreFiled l.self (Parts l.fn.self.bits l.many l.place);
   same : HaveSame l.fn.self l.self;
+  left : (n : ℕ) → l.place ≤ n → n < l.many → stands l.self n ≡ stands l.fn.self n;
   used : IsCounted l.self;
+  ranges : IsByRange l.ranges;
+  within : (e : Filed) → Has l.ranges e → IsIn l.fn.self e;
+  told : (n : ℕ) (e : Filed) → n < l.place → stands l.fn.self n ≡ Some e → IsTold l.ranges e.pair;
   counter : l.visits.turn ≡ l.fn.visits.turn;
 }

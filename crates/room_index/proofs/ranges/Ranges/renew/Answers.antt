@@ -1,18 +1,12 @@
-use Rattle.std.proofs.Common.{◌≡◌, ℕ, Some, length, sym, ap, subst, ◌∙◌, inl, inr, arith}
+use Rattle.std.proofs.Common.{◌≡◌, Some, length, sym, ap, subst, ◌∙◌, inl, inr, arith}
 use Rattle.std.proofs.lemmas.Bool.{cases_eq}
 use Rattle.std.proofs.lemmas.Option.{none-some, same_Some}
-use Rattle.room_index.proofs.Ranging.{told_more}
+use Rattle.room_index.proofs.Ranging.{read, told_more}
 use Rattle.room_index.proofs.Standing.{stands_within}
-use Rattle.radix_nodes.specs.declared.id.Id.{Id}
-use Rattle.room_index.specs.Filed.{Filed}
 use Rattle.room_index.specs.Places.{stands}
 use Rattle.room_index.specs.Ranges.{Has, IsByRange, IsTold}
 use Rattle.room_index.proofs.ranges.Ranges.renew.Goals.{in-Some, in_default}
 use Rattle.room_index.proofs.ranges.Ranges.renew.Goals as goal
-
--- the pair and the room of an entry are all of it
-read : (e : Filed) {pair : ℕ} {room : Id} → pair ≡ e.pair → room ≡ e.room → e ≡ record { pair = pair; room = room }
-read e {pair} of at = ap (λ k. record { pair = k; room = e.room }) (sym of) ∙ ap (λ r. record { pair = pair; room = r }) (sym at)
 
 pub loop-place-init : goal.loop-place-init
 loop-place-init g c = record {
@@ -20,7 +14,7 @@ loop-place-init g c = record {
   within = λ e has. absurd (c.begin.ensures.none e has);
   told = λ n e before at. absurd (omega arith);
   many = c.begin.ensures.many;
-  counter = ap (λ v. v.turn) c.used-2.ensures.looks;
+  counter = c.begin.ensures.counter;
 }
 
 pub loop-place-preserved : goal.loop-place-preserved
