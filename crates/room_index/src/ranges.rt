@@ -27,7 +27,7 @@ use std::alloc::{AllocError, Global};
 const FEWEST: usize = 8;
 
 /// So many ranges have one slot: their numbers differ in so many bits at the end.
-const EACH: usize = 1 << EACH_BITS;
+pub(crate) const EACH: usize = 1 << EACH_BITS;
 
 const EACH_BITS: u32 = 1;
 

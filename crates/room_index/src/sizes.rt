@@ -1,5 +1,5 @@
 //! How the table of places becomes larger and smaller.
-ghost use Rattle.std.specs.Prelude.{◌≡◌, ℕ, ◌+◌, ◌*◌, ◌/◌, ◌^◌, ◌<◌, ◌≤◌, ◌⊎◌, ◌&&◌, [], true, false, None, Some, IfSome, length, nat_le, nat_lt};
+ghost use Rattle.std.specs.Prelude.{◌≡◌, ℕ, ◌+◌, ◌*◌, ◌/◌, ◌^◌, ◌<◌, ◌≤◌, ◌⊎◌, ◌&&◌, [], true, false, None, Some, IfSome, length, nat_le, nat_lt, vec_capacity};
 ghost use Rattle.room_index.specs.Filed.{Filed};
 ghost use Rattle.room_index.specs.Places.{stands, AllAre, AreFiled, HasSamePlaces, HaveSame, IsCounted, IsHome, IsIn, IsTable};
 ghost use Rattle.room_index.specs.Ranges.{AreTold, Has, IsByRange, IsTold, TellsMore};
@@ -8,7 +8,7 @@ ghost use Rattle.room_index.specs.Sizes.{Folds, IsReserved, Parts, more_places};
 use crate::entry::Pair;
 use crate::homes::{Homes, MOST_BITS};
 use crate::places::{FEWEST, Places};
-use crate::ranges::Ranges;
+use crate::ranges::{EACH, Ranges};
 use crate::rooms::Rooms;
 use crate::tags::{BOTH, PLACES};
 use radix_nodes::Visits;
@@ -60,6 +60,10 @@ impl<P: Pair> Places<P> {
         ensures ranges { IsByRange ranges.new }
         ensures within { (e : Filed) → Has ranges.new e → IsIn self.new e }
         ensures told { AreTold ranges.new self.new }
+        ensures many { 0 < length self.old.tags.items → length self.old.tags.items < length self.new.tags.items
+            → length self.new.tags.items / PLACES / EACH ≤ vec_capacity ranges.old.last
+            → length self.new.tags.items / PLACES ≤ vec_capacity ranges.old.ranks
+            → length ranges.new.ranks.items ≡ length self.new.tags.items / PLACES }
         ensures counter { visits.new.turn ≡ visits.old.turn }
     {
         if !self.is_dense() || self.bits == MOST_BITS || !self.is_reserved() {
@@ -105,11 +109,14 @@ impl<P: Pair> Places<P> {
         ensures ranges { IsByRange ranges.new }
         ensures within { (e : Filed) → Has ranges.new e → IsIn self.new e }
         ensures told { AreTold ranges.new self.new }
+        ensures many { length self.new.tags.items / PLACES / EACH ≤ vec_capacity ranges.old.last
+            → length self.new.tags.items / PLACES ≤ vec_capacity ranges.old.ranks
+            → length ranges.new.ranks.items ≡ length self.new.tags.items / PLACES }
         ensures counter { visits.new.turn ≡ visits.old.turn }
     {
+        ranges.begin_for(self.bits + 1, self.used(), visits);
         let many = self.many();
         self.lengthen(2 * many);
-        ranges.begin_for(self.bits + 1, self.used(), visits);
         for place in 0..many {
             self.part(place, many, ranges, rooms, visits);
         }

@@ -1,4 +1,4 @@
-use Rattle.std.proofs.Common.{◌≡◌, ◌+◌, ◌*◌, ◌^◌, ap, subst, sym, ◌∙◌, refl, inl, inr, arith}
+use Rattle.std.proofs.Common.{◌≡◌, ◌+◌, ◌*◌, ◌/◌, ◌^◌, length, ap, subst, sym, ◌∙◌, refl, inl, inr, arith}
 use Rattle.std.proofs.lemmas.Bool.{cases_eq}
 use Rattle.room_index.proofs.Filing.{filed_as, same_as, same_then}
 use Rattle.room_index.proofs.HomeLemmas.{twice}
@@ -25,6 +25,7 @@ loop-place-init g c =
       ranges = c.begin_for.ensures.ranges;
       within = λ e has. c.requires.within e (c.begin_for.ensures.fewer e has);
       told = λ n e before at. absurd (omega arith);
+      ranged = c.begin_for.ensures.many;
       counter = c.begin_for.ensures.counter;
     }
 
@@ -48,6 +49,7 @@ loop-place-preserved g c =
         | inl same ↦ c.part.ensures.told e (was.left c.loop-place.place (omega arith) (omega arith) ∙ ap (stands c.args.self.now) (sym same) ∙ at)
         | inr other ↦ told_more c.loop-place.ranges c.part.new.ranges e.pair c.part.ensures.more (was.told n e (omega arith) at)
       ];
+      ranged = λ last ranks. c.part.ensures.more.many ∙ was.ranged last ranks;
       counter = c.part.ensures.counter ∙ was.counter;
     }
 
@@ -82,3 +84,9 @@ returns-clause-within g c e has = c.loop-place.invariant.same.kept e (c.loop-pla
 
 pub part-requires-clause-known : goal.part-requires-clause-known
 part-requires-clause-known g c e at = c.requires.known e (c.loop-place.invariant.same.had e at)
+
+pub returns-clause-many : goal.returns-clause-many
+returns-clause-many g c last ranks =
+    let as_many : length c.loop-place.self.tags.items / 8 ≡ 2 ^ (c.args.self.now.bits + 1) =
+    omega (arith, c.loop-place.invariant.tags, c.requires.table.size.size c.requires.some, c.many-many.ensures, twice c.args.self.now.bits) in
+    c.loop-place.invariant.ranged (omega (arith, as_many, last)) (omega (arith, as_many, ranks)) ∙ sym as_many

@@ -1,4 +1,5 @@
-use Rattle.std.proofs.Common.{◌≡◌, ℕ, ◌*◌, ◌<◌, ◌≤◌, Some, length}
+use Rattle.std.proofs.Common.{◌≡◌, ℕ, ◌+◌, ◌*◌, ◌/◌, ◌^◌, ◌<◌, ◌≤◌, Some, length}
+use Rattle.std.specs.Prelude.{vec_capacity}
 use Rattle.room_index.specs.Filed.{Filed}
 use Rattle.room_index.specs.Places.{stands, AreFiled, HaveSame, IsCounted, IsIn}
 use Rattle.room_index.specs.Ranges.{Has, IsByRange, IsTold}
@@ -17,5 +18,7 @@ invariant-loop-place g l = record {
   ranges : IsByRange l.ranges;
   within : (e : Filed) → Has l.ranges e → IsIn l.fn.self e;
   told : (n : ℕ) (e : Filed) → n < l.place → stands l.fn.self n ≡ Some e → IsTold l.ranges e.pair;
+  ranged : 2 ^ (l.fn.self.bits + 1) / 2 ≤ vec_capacity l.fn.ranges.last → 2 ^ (l.fn.self.bits + 1) ≤ vec_capacity l.fn.ranges.ranks
+      → length l.ranges.ranks.items ≡ 2 ^ (l.fn.self.bits + 1);
   counter : l.visits.turn ≡ l.fn.visits.turn;
 }
