@@ -111,13 +111,16 @@ module _ {P : Type 0} where
       ];
     }
 
-  -- ---- an entry moves to a place that was free, or stays
-  module _ (old new : Places P) (from to : ℕ) (moves : Moves old new from to) (own : Filed) (stood : stands old from ≡ Some own) (free : (to ≡ from) ⊎ (stands old to ≡ None)) where
+  -- ---- an entry moves to a place that was free
+  module _ (old new : Places P) (from to : ℕ) (moves : Moves old new from to) (own : Filed) (stood : stands old from ≡ Some own) (free : stands old to ≡ None) where
     at_to : stands new to ≡ Some own
     at_to = moves.stand to ∙ ap (λ b. if b then stands old from else (if to == from then None else stands old to)) (eq-eqb to to refl) ∙ stood
 
-    at_from : (from ≡ to → ⊥) → stands new from ≡ None
-    at_from apart = moves.stand from ∙ ap (λ b. if b then stands old from else (if from == from then None else stands old from)) (ne_eqb from to apart)
+    apart : from ≡ to → ⊥
+    apart same = none-some own (sym free ∙ ap (stands old) (sym same) ∙ stood)
+
+    at_from : stands new from ≡ None
+    at_from = moves.stand from ∙ ap (λ b. if b then stands old from else (if from == from then None else stands old from)) (ne_eqb from to apart)
         ∙ ap (λ b. if b then None else stands old from) (eq-eqb from from refl)
 
     pub at_other : (n : ℕ) → (n ≡ to → ⊥) → (n ≡ from → ⊥) → stands new n ≡ stands old n
@@ -130,7 +133,7 @@ module _ {P : Type 0} where
     move_cases n e at = elim (cases_eq n to) [
       | inl same ↦ inl (same, same_Some e own (sym at ∙ ap (stands new) same ∙ at_to))
       | inr other ↦
-          let not_from : n ≡ from → ⊥ = λ same. none-some e (sym (ap (stands new) same ∙ at_from (λ stays. other (same ∙ stays))) ∙ at) in
+          let not_from : n ≡ from → ⊥ = λ same. none-some e (sym (ap (stands new) same ∙ at_from) ∙ at) in
           inr (other, not_from, sym (at_other n other not_from) ∙ at)
     ]
 
@@ -144,12 +147,7 @@ module _ {P : Type 0} where
     still : (n : ℕ) (e : Filed) → stands old n ≡ Some e → IsIn new e
     still n e at = elim (cases_eq n from) [
       | inl same ↦ (to, at_to ∙ sym stood ∙ ap (stands old) (sym same) ∙ at)
-      | inr not_from ↦
-          let not_to : n ≡ to → ⊥ = λ same. elim free [
-            | inl stays ↦ not_from (same ∙ stays)
-            | inr none ↦ none-some e (sym none ∙ ap (stands old) (sym same) ∙ at)
-          ] in
-          (n, at_other n not_to not_from ∙ at)
+      | inr not_from ↦ (n, at_other n (λ same. none-some e (sym free ∙ ap (stands old) (sym same) ∙ at)) not_from ∙ at)
     ]
 
     pub moved_same : HaveSame old new

@@ -1,6 +1,5 @@
 -- What moves from place to place.
-use Rattle.std.proofs.Common.{◌≡◌, ℕ, ◌==◌, ◌⊎◌, if◌then◌else◌, Some, None, slice_index, sym, ap, ◌∙◌, inl, inr}
-use Rattle.std.proofs.lemmas.Bool.{cases_eq, eq-eqb, ne_eqb}
+use Rattle.std.proofs.Common.{◌≡◌, ℕ, ◌==◌, if◌then◌else◌, Some, None, slice_index, sym, ap, ◌∙◌}
 use Rattle.room_index.specs.Homes.{tag_of}
 use Rattle.room_index.specs.Places.{stands, Changes, Moves}
 use Rattle.room_index.specs.Filed.{Filed}
@@ -20,13 +19,3 @@ module _ {P : Type 0} where
     tags = λ n. puts.tags n ∙ ap (λ t. if n == to then tag_of e.pair else t) (frees.tags n)
         ∙ ap (λ t. if n == to then t else (if n == from then 0 else slice_index old.tags.items n)) (sym tag);
   }
-
-  -- once a place is free nothing stands where its entry goes: there, or where nothing stood
-  pub freed : (old free : Places P) (from to : ℕ) → Changes old free from None → (to ≡ from) ⊎ (stands old to ≡ None) → stands free to ≡ None
-  freed old free from to frees goes = elim (cases_eq to from) [
-    | inl same ↦ frees.stand to ∙ ap (λ b. if b then None else stands old to) (eq-eqb to from same)
-    | inr other ↦ elim goes [
-      | inl same ↦ absurd (other same)
-      | inr none ↦ frees.stand to ∙ ap (λ b. if b then None else stands old to) (ne_eqb to from other) ∙ none
-    ]
-  ]

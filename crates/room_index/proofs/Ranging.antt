@@ -21,7 +21,7 @@ use Rattle.room_index.specs.declared.places.Places.{Places}
 use Rattle.room_index.specs.declared.ranges.Ranges.{Ranges}
 
 -- ---- one slot is written
-module _ (items : List (Option Filed)) (slot : ℕ) (now : Option Filed) where
+module _ {T : Type 0} (items : List T) (slot : ℕ) (now : T) where
   pub set_here : slot < length items → slice_get (slice_set items slot now) slot ≡ Some now
   set_here within = slice_get-get_or (slice_set items slot now) slot now (subst (λ n. slot < n) (sym (length-set items slot now)) within)
       ∙ ap Some (get_or-set_same items slot now now within)

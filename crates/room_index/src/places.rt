@@ -1,5 +1,5 @@
 //! The table of places. What stands there is read by the calls of this file alone, each of which counts its looks.
-ghost use Rattle.std.specs.Prelude.{◌≡◌, ℕ, ◌+◌, ◌*◌, ◌/◌, ◌<◌, ◌≤◌, ◌⊎◌, ◌==◌, if◌then◌else◌, [], length, slice_get, slice_index, slice_set, vec_capacity};
+ghost use Rattle.std.specs.Prelude.{◌≡◌, ℕ, ◌+◌, ◌*◌, ◌/◌, ◌<◌, ◌≤◌, ◌==◌, if◌then◌else◌, [], length, slice_get, slice_index, slice_set, vec_capacity};
 ghost use Rattle.std.specs.Prelude.{IfSome, IfNone, MatchBool, is_err, nat_le, OnOk, Some, None, option_map, ◌&&◌, ◌-◌};
 ghost use Rattle.memory.specs.Refusing.{Rises};
 ghost use Rattle.room_index.specs.Homes.{tag_of};
@@ -243,10 +243,10 @@ impl<P: Pair> Places<P> {
         }
     }
 
-    /// Moves what stands in a place to a free one, in which its pair may stand, or leaves it there.
+    /// Moves what stands in a place to a free one, in which its pair may stand.
     pub(crate) fn move_to(&mut self, from: usize, to: usize, visits: &mut Visits)
         requires from { from < length self.old.tags.items }
-        requires to { (to < length self.old.tags.items) × ((to ≡ from) ⊎ (stands self.old to ≡ None)) }
+        requires to { (to < length self.old.tags.items) × (stands self.old to ≡ None) }
         requires size { length self.old.entries.items ≡ length self.old.tags.items }
         requires entry { (e : Filed) × (stands self.old from ≡ Some e)
             × (slice_index self.old.tags.items from ≡ tag_of e.pair) }

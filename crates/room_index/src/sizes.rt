@@ -1,5 +1,5 @@
 //! How the table of places becomes larger and smaller.
-ghost use Rattle.std.specs.Prelude.{◌≡◌, ℕ, ◌+◌, ◌*◌, ◌/◌, ◌^◌, ◌<◌, ◌≤◌, ◌⊎◌, ◌&&◌, [], true, false, None, Some, IfSome, length, nat_le, nat_lt, vec_capacity};
+ghost use Rattle.std.specs.Prelude.{◌≡◌, ℕ, ◌+◌, ◌*◌, ◌/◌, ◌^◌, ◌<◌, ◌≤◌, ◌⊎◌, ◌&&◌, [], true, false, None, Some, IfSome, length, nat_le, nat_lt, slice_get, vec_capacity};
 ghost use Rattle.room_index.specs.Filed.{Filed};
 ghost use Rattle.room_index.specs.Places.{stands, AllAre, AreFiled, HasSamePlaces, HaveSame, IsCounted, IsHome, IsIn, IsTable};
 ghost use Rattle.room_index.specs.Ranges.{AreTold, Has, IsByRange, IsTold, TellsMore};
@@ -92,7 +92,7 @@ impl<P: Pair> Places<P> {
     }
 
     /// Makes as many places more: each entry stays, or moves on by so many. The ranges begin anew, as many as there are
-    /// buckets then, and each entry is told them as it is passed: so its room is read once.
+    /// buckets then, and tell each entry as it is passed: so its room is read once.
     #[inline(never)]
     fn double<R: Rooms<P>>(&mut self, ranges: &mut Ranges<P>, rooms: &R, visits: &mut Visits)
         requires table { IsTable self.old }
@@ -117,29 +117,54 @@ impl<P: Pair> Places<P> {
         ranges.begin_for(self.bits + 1, self.used(), visits);
         let many = self.many();
         self.lengthen(2 * many);
+        let mut pairs = [0; PLACES];
         for place in 0..many {
-            self.part(place, many, ranges, rooms, visits);
+            if place % PLACES == 0 {
+                pairs = self.pairs_in(place / PLACES, rooms, visits);
+            }
+            self.part(place, many, pairs[place % PLACES], ranges, visits);
         }
         self.bits += 1;
     }
 
-    /// Tells the ranges the entry of a place, and moves it to its place among twice as many buckets.
+    /// The pairs of a bucket's entries, by their places. The rooms of all are read before anything is done with one, so
+    /// that the memory of each comes while that of the others is waited for.
     #[inline(always)]
-    fn part<R: Rooms<P>>(
+    fn pairs_in<R: Rooms<P>>(&self, bucket: usize, rooms: &R, visits: &mut Visits) -> [u64; PLACES]
+        requires known { AllAre (R.Knows rooms.now) self.now }
+        requires turn { R.IsTurn rooms.now visits.old.turn }
+        requires within { 8 * bucket + 8 ≤ length self.now.tags.items }
+        requires even { length self.now.entries.items ≡ length self.now.tags.items }
+        ensures pairs { (n : ℕ) (e : Filed) → n < 8 → stands self.now (8 * bucket + n) ≡ Some e
+            → slice_get result n ≡ Some e.pair }
+        ensures counter { visits.new.turn ≡ visits.old.turn }
+    {
+        let mut pairs = [0; PLACES];
+        for number in 0..PLACES {
+            if let Some(entry) = self.at(PLACES * bucket + number, visits) {
+                pairs[number] = rooms.pair(entry, visits);
+            }
+        }
+        pairs
+    }
+
+    /// Tells the ranges the entry of a place, which is of this pair, and moves it on by so many places, where it isn't at
+    /// home there among twice as many buckets.
+    #[inline(always)]
+    fn part(
         &mut self,
         place: usize,
         many: usize,
+        pair: u64,
         ranges: &mut Ranges<P>,
-        rooms: &R,
         visits: &mut Visits,
     )
-        requires known { AllAre (R.Knows rooms.now) self.old }
-        requires turn { R.IsTurn rooms.now visits.old.turn }
         requires many { many ≡ 8 * 2 ^ self.old.bits }
         requires size { length self.old.tags.items ≡ 2 * many }
         requires even { length self.old.entries.items ≡ length self.old.tags.items }
         requires few { self.old.bits < MOST_BITS }
         requires within { place < many }
+        requires pair { (e : Filed) → stands self.old place ≡ Some e → pair ≡ e.pair }
         requires filed { AreFiled self.old (Parts self.old.bits many place) }
         requires used { IsCounted self.old }
         requires ranges { IsByRange ranges.old }
@@ -157,11 +182,10 @@ impl<P: Pair> Places<P> {
         let Some(entry) = self.at(place, visits) else {
             return;
         };
-        let pair = rooms.pair(entry, visits);
         ranges.put(pair, entry.room(), visits);
-        // also where it stays: a branch would be guessed wrong half the time, and then all wait for the room's memory
-        let to = parted_place(place, many, pair, self.bits);
-        self.move_to(place, to, visits);
+        if !Homes::of(pair, self.bits + 1).has(place / PLACES) {
+            self.move_to(place, place + many, visits);
+        }
     }
 
     /// Makes the table smaller, where its entries are few for it. `false` where one finds no place there: then all are
@@ -256,23 +280,5 @@ impl<P: Pair> Places<P> {
             Some(free) => Some(free),
             None => self.free_in(Homes::of(pair, self.bits).beside(home), visits),
         }
-    }
-}
-
-/// Where among twice as many buckets an entry of a pair is at home that stands in a place of so many: there, or so many
-/// places on.
-#[inline(always)]
-fn parted_place(place: usize, many: usize, pair: u64, bits: u32) -> usize
-    requires few { bits < MOST_BITS }
-    requires many { many ≡ 8 * 2 ^ bits }
-    requires within { place < many }
-    requires home { IsHome bits place pair }
-    ensures home { IsHome (bits + 1) result pair }
-    ensures there { (result ≡ place) ⊎ (result ≡ place + many) }
-{
-    if Homes::of(pair, bits + 1).has(place / PLACES) {
-        place
-    } else {
-        place + many
     }
 }

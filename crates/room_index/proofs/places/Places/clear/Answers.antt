@@ -11,9 +11,6 @@ home g c = subst (IsHome c.args.self.now.bits c.in-Some-free_in.free) c.pair-pai
   | inr second ↦ inr (c.in-Some-free_in.ensures.free.0 ∙ second ∙ ap (λ h. h.second) c.of.ensures)
 ])
 
-pub move_to-requires-clause-to : goal.move_to-requires-clause-to
-move_to-requires-clause-to g c = (c.in-Some-free_in.ensures.free.1, inr c.in-Some-free_in.ensures.free.2)
-
 pub returns-clause-table : goal.returns-clause-table
 returns-clause-table g c =
     let p = c.args.self.now in
@@ -22,7 +19,7 @@ returns-clause-table g c =
     record {
       used = c.move_to.ensures.used;
       size = size_kept p new c.requires.table.size c.move_to.ensures.moved.same;
-      filed = filed_moved p new c.args.place c.in-Some-free_in.free c.move_to.ensures.moved c.in-Some.entry.now c.in-Some.ensures.some (inr c.in-Some-free_in.ensures.free.2)
+      filed = filed_moved p new c.args.place c.in-Some-free_in.free c.move_to.ensures.moved c.in-Some.entry.now c.in-Some.ensures.some c.in-Some-free_in.ensures.free.2
           (IsHome p.bits) (IsHome new.bits) c.requires.table.filed
           (subst (λ b. IsHome b c.in-Some-free_in.free c.in-Some.entry.now.pair) (sym bits) (home g c))
           (λ n e other stood was. subst (λ b. IsHome b n e.pair) (sym bits) was);
@@ -30,4 +27,4 @@ returns-clause-table g c =
 
 pub returns-clause-same : goal.returns-clause-same
 returns-clause-same g c = moved_same c.args.self.now c.move_to.new.self c.args.place c.in-Some-free_in.free c.move_to.ensures.moved c.in-Some.entry.now
-    c.in-Some.ensures.some (inr c.in-Some-free_in.ensures.free.2)
+    c.in-Some.ensures.some c.in-Some-free_in.ensures.free.2

@@ -1,12 +1,15 @@
-use Rattle.std.proofs.Common.{◌≡◌, ◌+◌, ◌*◌, ◌/◌, ◌^◌, length, ap, subst, sym, ◌∙◌, refl, inl, inr, arith}
+use Rattle.std.proofs.Common.{◌≡◌, ℕ, ◌+◌, ◌*◌, ◌/◌, ◌%◌, ◌^◌, ◌<◌, ◌≤◌, Some, slice_get, ap, subst, sym, ◌∙◌, refl, inl, inr, arith}
 use Rattle.std.proofs.lemmas.Bool.{cases_eq}
+use Rattle.std.proofs.lemmas.Option.{get_or_from_slice_get}
 use Rattle.room_index.proofs.Filing.{filed_as, same_as, same_then}
 use Rattle.room_index.proofs.HomeLemmas.{twice}
 use Rattle.room_index.proofs.Ranging.{told_more}
 use Rattle.room_index.proofs.Sizing.{parts_begin, parts_end}
 use Rattle.room_index.proofs.Standing.{stands_within}
+use Rattle.room_index.specs.Filed.{Filed}
 use Rattle.room_index.specs.Places.{stands, AreFiled, IsHome}
 use Rattle.room_index.specs.Sizes.{Parts}
+use Rattle.room_index.proofs.places.Places.double.Goals.{then-place-eq0, else-place-eq0, Joined-place-eq0}
 use Rattle.room_index.proofs.places.Places.double.Goals as goal
 
 pub loop-place-init : goal.loop-place-init
@@ -20,6 +23,7 @@ loop-place-init g c =
       filed = parts_begin c.lengthen.new.self p.bits c.many-many.result filed (λ n e at.
           omega (arith, stands_within p.tags.items p.entries.items n {e = e} (sym (c.lengthen.ensures.places.stand n) ∙ at), c.requires.table.size.even, c.many-many.ensures));
       same = same_as p c.lengthen.new.self c.lengthen.ensures.places.stand;
+      pairs = λ n e from to inside at. absurd (inside refl);
       left = λ n behind low. c.lengthen.ensures.places.stand n;
       used = c.lengthen.ensures.used;
       ranges = c.begin_for.ensures.ranges;
@@ -28,6 +32,14 @@ loop-place-init g c =
       ranged = c.begin_for.ensures.many;
       counter = c.begin_for.ensures.counter;
     }
+
+-- the pairs of what is still to come in the bucket are at hand
+at_hand : (g : _) (c : Joined-place-eq0 g) (n : ℕ) (e : Filed) → c.loop-place.place % 8 ≤ n → n < 8 → stands c.loop-place.self (8 * (c.loop-place.place / 8) + n) ≡ Some e
+    → slice_get c.if-place-eq0.pairs n ≡ Some e.pair
+at_hand g c n e from to at = elim c.if-place-eq0.branch [
+  | then-place-eq0 w ↦ ap (λ ps. slice_get ps n) w.pairs-is ∙ w.pairs_in-pairs.ensures.pairs n e to at
+  | else-place-eq0 w ↦ ap (λ ps. slice_get ps n) w.pairs-is ∙ c.loop-place.invariant.pairs n e from to w.if-place-eq0.false at
+]
 
 pub loop-place-preserved : goal.loop-place-preserved
 loop-place-preserved g c =
@@ -38,6 +50,11 @@ loop-place-preserved g c =
       entries = c.part.ensures.places.entries ∙ was.entries;
       filed = subst (λ b. AreFiled c.part.new.self (Parts b c.many-many.result (c.loop-place.place + 1))) was.bits c.part.ensures.filed;
       same = same_then c.args.self.now c.loop-place.self c.part.new.self was.same c.part.ensures.same;
+      pairs = λ n e from to inside at.
+          let next : ℕ = 8 * ((c.loop-place.place + 1) / 8) + n in
+          let same : 8 * (c.loop-place.place / 8) + n ≡ next = omega (arith, inside) in
+          let left = c.part.ensures.left next (omega (arith, from)) (omega (arith, same, to, c.loop-place-test.true, c.many-many.ensures, c.requires.table.size.size c.requires.some)) in
+          at_hand g (goal.at.loop-place-preserved g c).Joined-place-eq0 n e (omega (arith, from, inside)) to (ap (stands c.loop-place.self) same ∙ sym left ∙ at);
       left = λ n behind low. c.part.ensures.left n (omega arith) low ∙ was.left n (omega arith) low;
       used = c.part.ensures.used;
       ranges = c.part.ensures.ranges;
@@ -50,7 +67,10 @@ loop-place-preserved g c =
         | inr other ↦ told_more c.loop-place.ranges c.part.new.ranges e.pair c.part.ensures.more (was.told n e (omega arith) at)
       ];
       ranged = λ last ranks. c.part.ensures.more.many ∙ was.ranged last ranks;
-      counter = c.part.ensures.counter ∙ was.counter;
+      counter = c.part.ensures.counter ∙ elim c.if-place-eq0.branch [
+        | then-place-eq0 w ↦ ap (λ v. v.turn) w.visits-is ∙ w.pairs_in-pairs.ensures.counter ∙ was.counter
+        | else-place-eq0 w ↦ ap (λ v. v.turn) w.visits-is ∙ was.counter
+      ];
     }
 
 pub returns-clause-table : goal.returns-clause-table
@@ -82,11 +102,12 @@ returns-clause-told g c e at =
 pub returns-clause-within : goal.returns-clause-within
 returns-clause-within g c e has = c.loop-place.invariant.same.kept e (c.loop-place.invariant.within e has)
 
-pub part-requires-clause-known : goal.part-requires-clause-known
-part-requires-clause-known g c e at = c.requires.known e (c.loop-place.invariant.same.had e at)
+pub pairs_in-pairs-requires-clause-known : goal.pairs_in-pairs-requires-clause-known
+pairs_in-pairs-requires-clause-known g c e at = c.requires.known e (c.loop-place.invariant.same.had e at)
 
-pub returns-clause-many : goal.returns-clause-many
-returns-clause-many g c last ranks =
-    let as_many : length c.loop-place.self.tags.items / 8 ≡ 2 ^ (c.args.self.now.bits + 1) =
-    omega (arith, c.loop-place.invariant.tags, c.requires.table.size.size c.requires.some, c.many-many.ensures, twice c.args.self.now.bits) in
-    c.loop-place.invariant.ranged (omega (arith, as_many, last)) (omega (arith, as_many, ranks)) ∙ sym as_many
+pub part-requires-clause-pair : goal.part-requires-clause-pair
+part-requires-clause-pair g c e at =
+    let place = c.loop-place.place in
+    let here : 8 * (place / 8) + place % 8 ≡ place = omega arith in
+    get_or_from_slice_get c.if-place-eq0.pairs (place % 8) e.pair 0
+    (at_hand g (goal.at.part-requires-clause-pair g c).Joined-place-eq0 (place % 8) e (omega arith) (omega arith) (ap (stands c.loop-place.self) here ∙ at))

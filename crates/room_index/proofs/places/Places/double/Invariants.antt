@@ -1,4 +1,4 @@
-use Rattle.std.proofs.Common.{◌≡◌, ℕ, ◌+◌, ◌*◌, ◌/◌, ◌^◌, ◌<◌, ◌≤◌, Some, length}
+use Rattle.std.proofs.Common.{◌≡◌, ℕ, ◌+◌, ◌*◌, ◌/◌, ◌%◌, ◌^◌, ◌<◌, ◌≤◌, Some, length, slice_get}
 use Rattle.std.specs.Prelude.{vec_capacity}
 use Rattle.room_index.specs.Filed.{Filed}
 use Rattle.room_index.specs.Places.{stands, AreFiled, HaveSame, IsCounted, IsIn}
@@ -13,6 +13,7 @@ invariant-loop-place g l = record {
   entries : length l.self.entries.items ≡ 2 * l.many;
   filed : AreFiled l.self (Parts l.fn.self.bits l.many l.place);
   same : HaveSame l.fn.self l.self;
+  pairs : (n : ℕ) (e : Filed) → l.place % 8 ≤ n → n < 8 → (l.place % 8 ≡ 0 → ⊥) → stands l.self (8 * (l.place / 8) + n) ≡ Some e → slice_get l.pairs n ≡ Some e.pair;
   left : (n : ℕ) → l.place ≤ n → n < l.many → stands l.self n ≡ stands l.fn.self n;
   used : IsCounted l.self;
   ranges : IsByRange l.ranges;

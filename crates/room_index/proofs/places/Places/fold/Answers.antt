@@ -1,4 +1,4 @@
-use Rattle.std.proofs.Common.{◌*◌, ◌/◌, ◌-◌, subst, sym, inr, arith}
+use Rattle.std.proofs.Common.{◌*◌, ◌/◌, ◌-◌, subst, sym, arith}
 use Rattle.room_index.proofs.HomeLemmas.{folded_home}
 use Rattle.room_index.proofs.Sizing.{folded_past, folded_same, folded_down}
 use Rattle.room_index.specs.Places.{IsHome}
@@ -12,9 +12,6 @@ free_below-requires-clause-home g c =
     let stood = c.requires.filed.places c.args.place c.in-Some.entry.now c.in-Some.ensures.some in
     subst (IsHome c.args.self.now.bits (8 * ((c.args.place - c.args.half) / 8))) (sym c.pair-pair.ensures.pair) (folded_home c.args.self.now.bits c.args.place c.in-Some.entry.now.pair (stood.upper c.requires.upper).1 (omega (arith, c.requires.half, c.requires.upper))
     (8 * ((c.args.place - c.args.half) / 8)) (omega (arith, c.requires.half, c.requires.upper)))
-
-pub move_to-requires-clause-to : goal.move_to-requires-clause-to
-move_to-requires-clause-to g c = (c.in-Some-free_below.ensures.free.0, inr c.in-Some-free_below.ensures.free.1)
 
 pub returns-clause-filed : goal.returns-clause-filed
 returns-clause-filed g c done =
