@@ -23,10 +23,14 @@ pub(crate) struct Interface {
     type_number: u8,
     link: LinkAddress,
     addresses: Vec<Address>,
+    /// How many at the front are known to be removed: a search passes over these at once.
+    gone: usize,
 }
 
 impl Model for Interface {
+    ghost use Rattle.std.specs.Prelude.{◌≡◌, ◌≤◌, length, true};
     ghost use Rattle.if_addrs.specs.Interfaces.{Interface as Seen};
+    ghost use Rattle.if_addrs.specs.Homes.{are_gone};
 
     ghost Value = { Seen };
 
@@ -37,6 +41,8 @@ impl Model for Interface {
       link = i.link;
       addresses = i.addresses.items;
     } };
+
+    ghost invariant = { λ i. (i.gone ≤ length i.addresses.items) × (are_gone i.gone i.addresses.items ≡ true) };
 }
 
 impl Interface {
@@ -56,6 +62,7 @@ impl Interface {
             type_number,
             link,
             addresses: Vec::new(alloc),
+            gone: 0,
         }
     }
 
@@ -77,7 +84,14 @@ impl Interface {
     fn holds(&self, address: Inet) -> bool
         ensures { result ≡ holds address self.now }
     {
-        self.addresses.iter().any(|a| a.is_at(address))
+        address::holds(self.left(), address)
+    }
+
+    /// Its addresses but for those at the front that are known to be removed.
+    fn left(&self) -> &[Address]
+        ensures { standing result.now ≡ standing self.now.addresses }
+    {
+        &self.addresses[self.gone..]
     }
 
     /// How many addresses it was ever given.
@@ -99,14 +113,14 @@ impl Interface {
     pub(crate) fn first(&self, wanted: &Wanted) -> Option<Address>
         ensures { result ≡ find (is_wanted wanted.now) self.now.addresses }
     {
-        address::first(&self.addresses, wanted)
+        address::first(self.left(), wanted)
     }
 
     /// The first of the longest prefix among its addresses that are as a search wants them.
     fn longest(&self, wanted: &Wanted) -> Option<Address>
         ensures { result ≡ longest_of (filter (is_wanted wanted.now) self.now.addresses) }
     {
-        address::longest(&self.addresses, wanted)
+        address::longest(self.left(), wanted)
     }
 
     /// The first of its addresses whose network holds this one, or else its first.
@@ -134,6 +148,15 @@ impl Interface {
         ensures { self.new ≡ with_marked place mark self.old }
     {
         self.addresses[place].mark(mark);
+        self.pass();
+    }
+
+    /// Passes on, over the removed ones behind those that are known to be.
+    fn pass(&mut self)
+        ensures { self.new ≡ self.old }
+    {
+        let left = &self.addresses[self.gone..];
+        self.gone += address::place_of_standing(left).unwrap_or(left.len());
     }
 
     /// Its link-layer address as a message writes it, `index` being the interface's number.
