@@ -22,9 +22,10 @@ pub(crate) struct Interface {
     kind: Kind,
     type_number: u8,
     link: LinkAddress,
+    /// How many addresses at the front are known to be removed: a search passes over these at once. It stands in four
+    /// bytes that no field needs, so that the blocks behind that of the interfaces lie in the cache as without it.
+    gone: u32,
     addresses: Vec<Address>,
-    /// How many at the front are known to be removed: a search passes over these at once.
-    gone: usize,
 }
 
 impl Model for Interface {
@@ -61,8 +62,8 @@ impl Interface {
             kind,
             type_number,
             link,
-            addresses: Vec::new(alloc),
             gone: 0,
+            addresses: Vec::new(alloc),
         }
     }
 
@@ -91,7 +92,7 @@ impl Interface {
     fn left(&self) -> &[Address]
         ensures { standing result.now ≡ standing self.now.addresses }
     {
-        &self.addresses[self.gone..]
+        &self.addresses[self.gone as usize..]
     }
 
     /// How many addresses it was ever given.
@@ -155,8 +156,11 @@ impl Interface {
     fn pass(&mut self)
         ensures { self.new ≡ self.old }
     {
-        let left = &self.addresses[self.gone..];
-        self.gone += address::place_of_standing(left).unwrap_or(left.len());
+        let left = &self.addresses[self.gone as usize..];
+        let more = address::place_of_standing(left).unwrap_or(left.len());
+        if let Ok(gone) = u32::try_from(self.gone as usize + more) {
+            self.gone = gone;
+        }
     }
 
     /// Its link-layer address as a message writes it, `index` being the interface's number.

@@ -9,6 +9,6 @@ use Rattle.if_addrs.proofs.interface.Interface.pass.Goals as goal
 pub invariant_of-self : goal.invariant_of-self
 invariant_of-self c =
     let n = c.self.inside.gone in
-    gone_to n c.unwrap_or.result c.self.inside.addresses.items c.self.invariant.1
-    (c.unwrap_or.ensures ∙ ap (λ (o : Option ℕ). unwrap_or o (length (behind n c.deref.result.now))) c.place_of_standing.ensures
-    ∙ ap (λ (xs : List Address). unwrap_or (position is_standing (behind n xs)) (length (behind n xs))) c.deref.ensures.value)
+    rw (c.in-Ok.ensures.1) (gone_to n c.unwrap_or-more.result c.self.inside.addresses.items c.self.invariant.1
+    (c.unwrap_or-more.ensures ∙ ap (λ (o : Option ℕ). unwrap_or o (length (behind n c.deref.result.now))) c.place_of_standing.ensures
+    ∙ ap (λ (xs : List Address). unwrap_or (position is_standing (behind n xs)) (length (behind n xs))) c.deref.ensures.value))
