@@ -1,6 +1,5 @@
 pub mod Networks
 pub mod Adding
-pub mod Gone
 pub mod Homes
 pub mod Keeping
 pub mod Marking

@@ -1,5 +1,5 @@
--- Where the code finds an address: it keeps the home of each by its number, and of each interface how many are gone.
-use Rattle.std.specs.Prelude.{◌≡◌, ℕ, zero, suc, ◌+◌, Bool, true, false, ◌&&◌, List, [], ◌∷◌, length, Some, slice_get}
+-- Where the code finds an address by its number: it keeps the home of each.
+use Rattle.std.specs.Prelude.{◌≡◌, ℕ, ◌+◌, List, [], length, Some, slice_get}
 use Rattle.std.specs.List.{position}
 use Rattle.std.specs.Option.{option_map_or}
 use Rattle.if_addrs.specs.Interfaces.{Address, Interface, has_number, has_numbered}
@@ -20,9 +20,3 @@ pub record AreAtHome (homes : List Home) (interfaces : List Interface) : Type 0 
   pub numbered : AreNumbered (length homes) interfaces
   pub none_before : uses 0 interfaces ≡ 0
   pub at_home : (k : ℕ) (home : Home) → slice_get homes k ≡ Some home → IsHome (k + 1) home interfaces
-
--- there are so many addresses at the front, and each of them was removed
-abbrev pub are_gone : ℕ → List Address → Bool
-are_gone zero addresses = true
-are_gone (suc n) [] = false
-are_gone (suc n) (a ∷ rest) = a.removed && are_gone n rest

@@ -22,16 +22,11 @@ pub(crate) struct Interface {
     kind: Kind,
     type_number: u8,
     link: LinkAddress,
-    /// How many addresses at the front are known to be removed: a search passes over these at once. It stands in four
-    /// bytes that no field needs, so that the blocks behind that of the interfaces lie in the cache as without it.
-    gone: u32,
     addresses: Vec<Address>,
 }
 
 impl Model for Interface {
-    ghost use Rattle.std.specs.Prelude.{◌≡◌, ◌≤◌, length, true};
     ghost use Rattle.if_addrs.specs.Interfaces.{Interface as Seen};
-    ghost use Rattle.if_addrs.specs.Homes.{are_gone};
 
     ghost Value = { Seen };
 
@@ -42,8 +37,6 @@ impl Model for Interface {
       link = i.link;
       addresses = i.addresses.items;
     } };
-
-    ghost invariant = { λ i. (i.gone ≤ length i.addresses.items) × (are_gone i.gone i.addresses.items ≡ true) };
 }
 
 impl Interface {
@@ -62,7 +55,6 @@ impl Interface {
             kind,
             type_number,
             link,
-            gone: 0,
             addresses: Vec::new(alloc),
         }
     }
@@ -85,14 +77,7 @@ impl Interface {
     fn holds(&self, address: Inet) -> bool
         ensures { result ≡ holds address self.now }
     {
-        address::holds(self.left(), address)
-    }
-
-    /// Its addresses but for those at the front that are known to be removed.
-    fn left(&self) -> &[Address]
-        ensures { standing result.now ≡ standing self.now.addresses }
-    {
-        &self.addresses[self.gone as usize..]
+        self.addresses.iter().any(|a| a.is_at(address))
     }
 
     /// How many addresses it was ever given.
@@ -114,14 +99,14 @@ impl Interface {
     pub(crate) fn first(&self, wanted: &Wanted) -> Option<Address>
         ensures { result ≡ find (is_wanted wanted.now) self.now.addresses }
     {
-        address::first(self.left(), wanted)
+        address::first(&self.addresses, wanted)
     }
 
     /// The first of the longest prefix among its addresses that are as a search wants them.
     fn longest(&self, wanted: &Wanted) -> Option<Address>
         ensures { result ≡ longest_of (filter (is_wanted wanted.now) self.now.addresses) }
     {
-        address::longest(self.left(), wanted)
+        address::longest(&self.addresses, wanted)
     }
 
     /// The first of its addresses whose network holds this one, or else its first.
@@ -149,18 +134,6 @@ impl Interface {
         ensures { self.new ≡ with_marked place mark self.old }
     {
         self.addresses[place].mark(mark);
-        self.pass();
-    }
-
-    /// Passes on, over the removed ones behind those that are known to be.
-    fn pass(&mut self)
-        ensures { self.new ≡ self.old }
-    {
-        let left = &self.addresses[self.gone as usize..];
-        let more = address::place_of_standing(left).unwrap_or(left.len());
-        if let Ok(gone) = u32::try_from(self.gone as usize + more) {
-            self.gone = gone;
-        }
     }
 
     /// Its link-layer address as a message writes it, `index` being the interface's number.
