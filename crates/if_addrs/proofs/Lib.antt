@@ -1,5 +1,6 @@
 pub mod Networks
 pub mod Adding
+pub mod Gone
 pub mod Homes
 pub mod Keeping
 pub mod Marking

@@ -1,9 +1,10 @@
--- Where the code finds an address by its number: it keeps the home of each.
+-- Where the code finds an address: it keeps the home of each by its number, and of each interface how many are gone.
 use Rattle.std.specs.Prelude.{◌≡◌, ℕ, ◌+◌, List, [], length, Some, slice_get}
-use Rattle.std.specs.List.{position}
+use Rattle.std.specs.List.{position, position_or_len}
 use Rattle.std.specs.Option.{option_map_or}
 use Rattle.if_addrs.specs.Interfaces.{Address, Interface, has_number, has_numbered}
 use Rattle.if_addrs.specs.Numbered.{AreNumbered, uses}
+use Rattle.if_addrs.specs.Told.{is_standing}
 use Rattle.if_addrs.specs.declared.home.Home.{Home}
 
 -- the addresses of the interface at a place
@@ -20,3 +21,7 @@ pub record AreAtHome (homes : List Home) (interfaces : List Interface) : Type 0 
   pub numbered : AreNumbered (length homes) interfaces
   pub none_before : uses 0 interfaces ≡ 0
   pub at_home : (k : ℕ) (home : Home) → slice_get homes k ≡ Some home → IsHome (k + 1) home interfaces
+
+-- how many addresses that were removed come before the first that wasn't
+abbrev pub gone_ahead : List Address → ℕ
+gone_ahead addresses = position_or_len is_standing addresses

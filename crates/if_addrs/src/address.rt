@@ -1,5 +1,5 @@
 ghost use Rattle.std.specs.Prelude.{◌≡◌, filter};
-ghost use Rattle.std.specs.List.{find, position};
+ghost use Rattle.std.specs.List.{find, list_any, position};
 ghost use Rattle.if_addrs.specs.Interfaces.{new_address, last_of_network, far_of, is_at, reference as reference_to};
 ghost use Rattle.if_addrs.specs.Facts.{facts_of};
 ghost use Rattle.if_addrs.specs.Searches.{answers_to, leads_to, network_holds, longest as longest_of};
@@ -231,6 +231,13 @@ pub(crate) fn first(addresses: &[Address], wanted: &Wanted) -> Option<Address>
         }
     }
     None
+}
+
+/// Whether one of them is this address, and was not removed.
+pub(crate) fn holds(addresses: &[Address], sought: Inet) -> bool
+    ensures { result ≡ list_any (is_at sought) addresses.now }
+{
+    addresses.iter().any(|address| address.is_at(sought))
 }
 
 /// The place of the first that was not removed.

@@ -22,11 +22,16 @@ pub(crate) struct Interface {
     kind: Kind,
     type_number: u8,
     link: LinkAddress,
+    /// How many addresses at the front are known to be removed: a search passes over these at once. A `u32` fits where no
+    /// field is, so that an interface takes no more memory.
+    gone: u32,
     addresses: Vec<Address>,
 }
 
 impl Model for Interface {
+    ghost use Rattle.std.specs.Prelude.{◌≤◌};
     ghost use Rattle.if_addrs.specs.Interfaces.{Interface as Seen};
+    ghost use Rattle.if_addrs.specs.Homes.{gone_ahead};
 
     ghost Value = { Seen };
 
@@ -37,6 +42,8 @@ impl Model for Interface {
       link = i.link;
       addresses = i.addresses.items;
     } };
+
+    ghost invariant = { λ i. i.gone ≤ gone_ahead i.addresses.items };
 }
 
 impl Interface {
@@ -55,6 +62,7 @@ impl Interface {
             kind,
             type_number,
             link,
+            gone: 0,
             addresses: Vec::new(alloc),
         }
     }
@@ -77,7 +85,15 @@ impl Interface {
     fn holds(&self, address: Inet) -> bool
         ensures { result ≡ holds address self.now }
     {
-        self.addresses.iter().any(|a| a.is_at(address))
+        address::holds(self.left(), address)
+    }
+
+    /// Its addresses but for those at the front that are known to be removed.
+    #[tactic(auto, using(crate::proofs::Gone::within))]
+    fn left(&self) -> &[Address]
+        ensures { standing result.now ≡ standing self.now.addresses }
+    {
+        &self.addresses[self.gone as usize..]
     }
 
     /// How many addresses it was ever given.
@@ -99,14 +115,14 @@ impl Interface {
     pub(crate) fn first(&self, wanted: &Wanted) -> Option<Address>
         ensures { result ≡ find (is_wanted wanted.now) self.now.addresses }
     {
-        address::first(&self.addresses, wanted)
+        address::first(self.left(), wanted)
     }
 
     /// The first of the longest prefix among its addresses that are as a search wants them.
     fn longest(&self, wanted: &Wanted) -> Option<Address>
         ensures { result ≡ longest_of (filter (is_wanted wanted.now) self.now.addresses) }
     {
-        address::longest(&self.addresses, wanted)
+        address::longest(self.left(), wanted)
     }
 
     /// The first of its addresses whose network holds this one, or else its first.
@@ -134,6 +150,19 @@ impl Interface {
         ensures { self.new ≡ with_marked place mark self.old }
     {
         self.addresses[place].mark(mark);
+        self.pass();
+    }
+
+    /// Passes on, over the removed ones behind those that are known to be.
+    #[tactic(auto, using(crate::proofs::Gone::within))]
+    fn pass(&mut self)
+        ensures { self.new ≡ self.old }
+    {
+        let left = &self.addresses[self.gone as usize..];
+        let more = address::place_of_standing(left).unwrap_or(left.len());
+        if let Ok(gone) = u32::try_from(self.gone as usize + more) {
+            self.gone = gone;
+        }
     }
 
     /// Its link-layer address as a message writes it, `index` being the interface's number.

@@ -20,6 +20,10 @@ const FEWEST_BITS: u32 = 2;
 /// that has none mostly finds one in its other home.
 const DENSE: usize = 5;
 
+/// Of so many places, those of 32 buckets, the rooms are read one right behind another as a table doubles: so the
+/// memory of each comes while that of many others is waited for.
+const TOGETHER: usize = 32 * PLACES;
+
 impl<P: Pair> Places<P> {
     /// Whether its entries are many for it.
     pub(crate) fn is_dense(&self) -> bool
@@ -117,31 +121,35 @@ impl<P: Pair> Places<P> {
         ranges.begin_for(self.bits + 1, self.used(), visits);
         let many = self.many();
         self.lengthen(2 * many);
-        let mut pairs = [0; PLACES];
+        let mut pairs = [0; TOGETHER];
         for place in 0..many {
-            if place % PLACES == 0 {
-                pairs = self.pairs_in(place / PLACES, rooms, visits);
+            if place % TOGETHER == 0 {
+                pairs = self.pairs_from(place, rooms, visits);
             }
-            self.part(place, many, pairs[place % PLACES], ranges, visits);
+            self.part(place, many, pairs[place % TOGETHER], ranges, visits);
         }
         self.bits += 1;
     }
 
-    /// The pairs of a bucket's entries, by their places. The rooms of all are read before anything is done with one, so
-    /// that the memory of each comes while that of the others is waited for.
+    /// The pairs of the entries from a place on, of as many places as are read together, or as there are.
     #[inline(always)]
-    fn pairs_in<R: Rooms<P>>(&self, bucket: usize, rooms: &R, visits: &mut Visits) -> [u64; PLACES]
+    fn pairs_from<R: Rooms<P>>(
+        &self,
+        first: usize,
+        rooms: &R,
+        visits: &mut Visits,
+    ) -> [u64; TOGETHER]
         requires known { AllAre (R.Knows rooms.now) self.now }
         requires turn { R.IsTurn rooms.now visits.old.turn }
-        requires within { 8 * bucket + 8 ≤ length self.now.tags.items }
+        requires within { first ≤ length self.now.tags.items }
         requires even { length self.now.entries.items ≡ length self.now.tags.items }
-        ensures pairs { (n : ℕ) (e : Filed) → n < 8 → stands self.now (8 * bucket + n) ≡ Some e
+        ensures pairs { (n : ℕ) (e : Filed) → n < TOGETHER → stands self.now (first + n) ≡ Some e
             → slice_get result n ≡ Some e.pair }
         ensures counter { visits.new.turn ≡ visits.old.turn }
     {
-        let mut pairs = [0; PLACES];
-        for number in 0..PLACES {
-            if let Some(entry) = self.at(PLACES * bucket + number, visits) {
+        let mut pairs = [0; TOGETHER];
+        for number in 0..TOGETHER.min(self.many() - first) {
+            if let Some(entry) = self.at(first + number, visits) {
                 pairs[number] = rooms.pair(entry, visits);
             }
         }

@@ -23,7 +23,7 @@ loop-place-init g c =
       filed = parts_begin c.lengthen.new.self p.bits c.many-many.result filed (λ n e at.
           omega (arith, stands_within p.tags.items p.entries.items n {e = e} (sym (c.lengthen.ensures.places.stand n) ∙ at), c.requires.table.size.even, c.many-many.ensures));
       same = same_as p c.lengthen.new.self c.lengthen.ensures.places.stand;
-      pairs = λ n e from to inside at. absurd (inside refl);
+      pairs = λ n e from to inside low at. absurd (inside refl);
       left = λ n behind low. c.lengthen.ensures.places.stand n;
       used = c.lengthen.ensures.used;
       ranges = c.begin_for.ensures.ranges;
@@ -33,12 +33,14 @@ loop-place-init g c =
       counter = c.begin_for.ensures.counter;
     }
 
--- the pairs of what is still to come in the bucket are at hand
-at_hand : (g : _) (c : Joined-place-eq0 g) (n : ℕ) (e : Filed) → c.loop-place.place % 8 ≤ n → n < 8 → stands c.loop-place.self (8 * (c.loop-place.place / 8) + n) ≡ Some e
-    → slice_get c.if-place-eq0.pairs n ≡ Some e.pair
-at_hand g c n e from to at = elim c.if-place-eq0.branch [
-  | then-place-eq0 w ↦ ap (λ ps. slice_get ps n) w.pairs-is ∙ w.pairs_in-pairs.ensures.pairs n e to at
-  | else-place-eq0 w ↦ ap (λ ps. slice_get ps n) w.pairs-is ∙ c.loop-place.invariant.pairs n e from to w.if-place-eq0.false at
+-- the pairs of what is still to come of the places that were read together are at hand
+at_hand : (g : _) (c : Joined-place-eq0 g) (n : ℕ) (e : Filed) → c.loop-place.place % 256 ≤ n → n < 256 → 256 * (c.loop-place.place / 256) + n < c.many-many.result
+    → stands c.loop-place.self (256 * (c.loop-place.place / 256) + n) ≡ Some e → slice_get c.if-place-eq0.pairs n ≡ Some e.pair
+at_hand g c n e from to low at = elim c.if-place-eq0.branch [
+  | then-place-eq0 w ↦
+      let here : c.loop-place.place + n ≡ 256 * (c.loop-place.place / 256) + n = omega (arith, w.if-place-eq0.true) in
+      ap (λ ps. slice_get ps n) w.pairs-is ∙ w.pairs_from-pairs.ensures.pairs n e to (ap (stands c.loop-place.self) here ∙ at)
+  | else-place-eq0 w ↦ ap (λ ps. slice_get ps n) w.pairs-is ∙ c.loop-place.invariant.pairs n e from to w.if-place-eq0.false low at
 ]
 
 pub loop-place-preserved : goal.loop-place-preserved
@@ -50,11 +52,11 @@ loop-place-preserved g c =
       entries = c.part.ensures.places.entries ∙ was.entries;
       filed = subst (λ b. AreFiled c.part.new.self (Parts b c.many-many.result (c.loop-place.place + 1))) was.bits c.part.ensures.filed;
       same = same_then c.args.self.now c.loop-place.self c.part.new.self was.same c.part.ensures.same;
-      pairs = λ n e from to inside at.
-          let next : ℕ = 8 * ((c.loop-place.place + 1) / 8) + n in
-          let same : 8 * (c.loop-place.place / 8) + n ≡ next = omega (arith, inside) in
-          let left = c.part.ensures.left next (omega (arith, from)) (omega (arith, same, to, c.loop-place-test.true, c.many-many.ensures, c.requires.table.size.size c.requires.some)) in
-          at_hand g (goal.at.loop-place-preserved g c).Joined-place-eq0 n e (omega (arith, from, inside)) to (ap (stands c.loop-place.self) same ∙ sym left ∙ at);
+      pairs = λ n e from to inside low at.
+          let next : ℕ = 256 * ((c.loop-place.place + 1) / 256) + n in
+          let same : 256 * (c.loop-place.place / 256) + n ≡ next = omega (arith, inside) in
+          let left = c.part.ensures.left next (omega (arith, from)) low in
+          at_hand g (goal.at.loop-place-preserved g c).Joined-place-eq0 n e (omega (arith, from, inside)) to (omega (arith, same, low)) (ap (stands c.loop-place.self) same ∙ sym left ∙ at);
       left = λ n behind low. c.part.ensures.left n (omega arith) low ∙ was.left n (omega arith) low;
       used = c.part.ensures.used;
       ranges = c.part.ensures.ranges;
@@ -68,7 +70,7 @@ loop-place-preserved g c =
       ];
       ranged = λ last ranks. c.part.ensures.more.many ∙ was.ranged last ranks;
       counter = c.part.ensures.counter ∙ elim c.if-place-eq0.branch [
-        | then-place-eq0 w ↦ ap (λ v. v.turn) w.visits-is ∙ w.pairs_in-pairs.ensures.counter ∙ was.counter
+        | then-place-eq0 w ↦ ap (λ v. v.turn) w.visits-is ∙ w.pairs_from-pairs.ensures.counter ∙ was.counter
         | else-place-eq0 w ↦ ap (λ v. v.turn) w.visits-is ∙ was.counter
       ];
     }
@@ -102,12 +104,13 @@ returns-clause-told g c e at =
 pub returns-clause-within : goal.returns-clause-within
 returns-clause-within g c e has = c.loop-place.invariant.same.kept e (c.loop-place.invariant.within e has)
 
-pub pairs_in-pairs-requires-clause-known : goal.pairs_in-pairs-requires-clause-known
-pairs_in-pairs-requires-clause-known g c e at = c.requires.known e (c.loop-place.invariant.same.had e at)
+pub pairs_from-pairs-requires-clause-known : goal.pairs_from-pairs-requires-clause-known
+pairs_from-pairs-requires-clause-known g c e at = c.requires.known e (c.loop-place.invariant.same.had e at)
 
 pub part-requires-clause-pair : goal.part-requires-clause-pair
 part-requires-clause-pair g c e at =
     let place = c.loop-place.place in
-    let here : 8 * (place / 8) + place % 8 ≡ place = omega arith in
-    get_or_from_slice_get c.if-place-eq0.pairs (place % 8) e.pair 0
-    (at_hand g (goal.at.part-requires-clause-pair g c).Joined-place-eq0 (place % 8) e (omega arith) (omega arith) (ap (stands c.loop-place.self) here ∙ at))
+    let here : 256 * (place / 256) + place % 256 ≡ place = omega arith in
+    get_or_from_slice_get c.if-place-eq0.pairs (place % 256) e.pair 0
+    (at_hand g (goal.at.part-requires-clause-pair g c).Joined-place-eq0 (place % 256) e (omega arith) (omega arith) (omega (arith, here, c.loop-place-test.true))
+    (ap (stands c.loop-place.self) here ∙ at))

@@ -13,7 +13,8 @@ invariant-loop-place g l = record {
   entries : length l.self.entries.items ≡ 2 * l.many;
   filed : AreFiled l.self (Parts l.fn.self.bits l.many l.place);
   same : HaveSame l.fn.self l.self;
-  pairs : (n : ℕ) (e : Filed) → l.place % 8 ≤ n → n < 8 → (l.place % 8 ≡ 0 → ⊥) → stands l.self (8 * (l.place / 8) + n) ≡ Some e → slice_get l.pairs n ≡ Some e.pair;
+  pairs : (n : ℕ) (e : Filed) → l.place % 256 ≤ n → n < 256 → (l.place % 256 ≡ 0 → ⊥) → 256 * (l.place / 256) + n < l.many
+      → stands l.self (256 * (l.place / 256) + n) ≡ Some e → slice_get l.pairs n ≡ Some e.pair;
   left : (n : ℕ) → l.place ≤ n → n < l.many → stands l.self n ≡ stands l.fn.self n;
   used : IsCounted l.self;
   ranges : IsByRange l.ranges;
