@@ -79,11 +79,25 @@ def an_address_comes_and_goes(by_chance):
     return [f"addr le0 10.{n}.0.1/16" for n in range(16)] + ["addr le0 10.99.0.1/16", "unaddr le0 10.99.0.1"] * 1_000
 
 
+def an_only_address_comes_and_goes(by_chance):
+    """The one address of an interface: those that were removed before it are not looked at again."""
+    return ["if le1 broadcast 6 080020010204"] + ["addr le1 10.99.0.1/16", "unaddr le1 10.99.0.1"] * 1_000
+
+
 def dumps(by_chance):
     return additions(networks(by_chance, 1_000)) + ["dump 1000000"] * 3
 
 
-KINDS = bad_lines, to_networks, to_the_world, within_one_network, come_and_go, an_address_comes_and_goes, dumps
+KINDS = (
+    bad_lines,
+    to_networks,
+    to_the_world,
+    within_one_network,
+    come_and_go,
+    an_address_comes_and_goes,
+    an_only_address_comes_and_goes,
+    dumps,
+)
 
 
 def script_of(kind):

@@ -1,14 +1,12 @@
 //! The words behind `route`.
 ghost use Rattle.std.specs.Prelude.{◌≡◌, length, map, bytes_eq, option_map, Some, None};
 ghost use Rattle.event_file.specs.RouteWords.{composed};
-ghost use Rattle.event_file.specs.Words.{parted_by};
-ghost use Rattle.event_file.specs.RouteLine.{address_options, behind_addresses, behind_bits, bit_options, destination_of, destination_of_parts, gate_if_written, hex_if_written, if_none_left as unless_left, mask_if_written, message_of, metric_options, number_if_written, route_words_of, verb_of};
+ghost use Rattle.event_file.specs.RouteLine.{address_options, behind_addresses, behind_bits, bit_options, destination_of, gate_if_written, hex_if_written, if_none_left as unless_left, mask_if_written, message_of, metric_options, number_if_written, route_words_of, verb_of};
 
 use crate::numbers::{read_hex, read_inet, read_number, read_prefix};
 use crate::route_words::{MetricWords, RouteWords, Verb, put_composed};
 use crate::texts::read_gate;
-use crate::words::{Options, if_written, is, put_parts};
-use arrayvec::ArrayVec;
+use crate::words::{Options, if_written, is, one_or_two};
 use mask_table::Prefix;
 use route_core::{Lent, MOST_WRITTEN};
 use sock_addrs::{Gate, Inet};
@@ -42,23 +40,6 @@ struct Destination {
     mask: Option<Prefix>,
 }
 
-/// The destination of the parts around a slash.
-fn read_destination_parts(parts: &[&[u8]]) -> Option<Destination>
-    ensures { result ≡ destination_of_parts (map (λ p. p.now) parts.now) }
-{
-    match parts {
-        [address] => Some(Destination {
-            address: read_inet(address)?,
-            mask: None,
-        }),
-        [address, bits] => Some(Destination {
-            address: read_inet(address)?,
-            mask: Some(read_prefix(bits)?),
-        }),
-        _ => None,
-    }
-}
-
 /// `A`, `A/P`, or `default`, which is 0.0.0.0/0.
 fn read_destination(word: &[u8]) -> Option<Destination>
     ensures { result ≡ destination_of word.now }
@@ -69,14 +50,15 @@ fn read_destination(word: &[u8]) -> Option<Destination>
             mask: Prefix::new(0),
         });
     }
-    let mut parts = ArrayVec::<&[u8], 2>::new();
-    if !put_parts(b'/', word, &mut parts) {
-        return None;
-    }
-    read_destination_parts(parts.as_slice())
+    let (address, bits) = one_or_two(b'/', word)?;
+    Some(Destination {
+        address: read_inet(address)?,
+        mask: mask(bits)?,
+    })
 }
 
-/// A gateway, where one is written.
+/// A gateway, where one is written. It is inlined: most lines have one of three, and the others then cost a branch.
+#[inline(always)]
 fn gate(word: Option<&[u8]>) -> Option<Option<Gate>>
     ensures { result ≡ gate_if_written (option_map (λ w. w.now) word.entry) }
 {

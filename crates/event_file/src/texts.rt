@@ -1,13 +1,12 @@
-ghost use Rattle.std.specs.Prelude.{◌≡◌, ◌≤◌, length, map, take, Some, None};
+ghost use Rattle.std.specs.Prelude.{◌≡◌, ◌≤◌, length, take, Some, None};
 ghost use Rattle.std.specs.List.{list_all};
 ghost use Rattle.std.specs.Option.{IfSome, MatchOption};
 ghost use Rattle.event_file.specs.Grammar.{most_link_bytes};
-ghost use Rattle.event_file.specs.Words.{is_name_byte, name_of, interface_kind_of, switch_of, bytes_to, link_of, gate_of_parts, gate_of};
+ghost use Rattle.event_file.specs.Words.{is_name_byte, name_of, interface_kind_of, switch_of, bytes_to, link_of, gate_of};
 
 use crate::hexadecimal;
 use crate::numbers::read_inet;
-use crate::words::{is, put_parts};
-use arrayvec::ArrayVec;
+use crate::words::{is, one_or_two};
 use route_core::{Kind, Lent, LinkAddress, MOST_WRITTEN};
 use sock_addrs::{Gate, Link, Name};
 
@@ -108,26 +107,14 @@ fn read_link_sockaddr(word: &[u8]) -> Option<Link>
     Link::new(&room[..count])
 }
 
-/// The gateway of the parts around a colon.
-fn read_gate_parts(parts: &[&[u8]]) -> Option<Gate>
-    ensures { result ≡ gate_of_parts (map (λ p. p.now) parts.now) }
-{
-    match parts {
-        [address] => Some(Gate::Inet(read_inet(address)?)),
-        [kind, digits] if *kind == b"link".as_slice() => Some(Gate::Link(read_link_sockaddr(
-            digits,
-        )?)),
-        _ => None,
-    }
-}
-
 /// A gateway: an IPv4 address, or `link:` and a link-layer address in hexadecimal.
+#[inline(never)]
 pub(crate) fn read_gate(word: &[u8]) -> Option<Gate>
     ensures { result ≡ gate_of word.now }
 {
-    let mut parts = ArrayVec::<&[u8], 2>::new();
-    if !put_parts(b':', word, &mut parts) {
-        return None;
+    match one_or_two(b':', word)? {
+        (address, None) => Some(Gate::Inet(read_inet(address)?)),
+        (kind, Some(digits)) if is(kind, "link") => Some(Gate::Link(read_link_sockaddr(digits)?)),
+        _ => None,
     }
-    read_gate_parts(parts.as_slice())
 }

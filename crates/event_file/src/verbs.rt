@@ -6,8 +6,7 @@ ghost use Rattle.event_file.specs.Words.{parted_by};
 use crate::numbers::{read_byte, read_hex, read_inet, read_number, read_prefix, read_protocol};
 use crate::route_line::read_composed;
 use crate::texts::{read_kind, read_link, read_name, read_switch, read_written};
-use crate::words::{Options, if_written, is, put_parts};
-use arrayvec::ArrayVec;
+use crate::words::{Options, if_written, is, one_or_two};
 use route_core::{Command, MOST_WRITTEN, NewGateway, Said};
 use sock_addrs::Inet;
 
@@ -34,17 +33,11 @@ pub(crate) fn attach(words: &[&[u8]]) -> Option<Said<'static>>
 fn address(name: &[u8], word: &[u8], cloning: bool, far: Option<Inet>) -> Option<Said<'static>>
     ensures { result ≡ address_of_parts name.now (parted_by 47 word.now) cloning far }
 {
-    let mut parts = ArrayVec::<&[u8], 2>::new();
-    if !put_parts(b'/', word, &mut parts) {
-        return None;
-    }
-    let [address, prefix] = parts.as_slice() else {
-        return None;
-    };
+    let (address, prefix) = one_or_two(b'/', word)?;
     Some(Command::AddAddress {
         name: read_name(name)?,
         address: read_inet(address)?,
-        prefix: read_prefix(prefix)?,
+        prefix: read_prefix(prefix?)?,
         cloning,
         far,
     })

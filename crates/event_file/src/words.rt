@@ -1,6 +1,6 @@
 //! The words of a line: how it is parted into them, whether one is a given word, and options, a name and a word each.
 ghost use Rattle.std.specs.Prelude.{◌≡◌, ◌<◌, [], ◌∷◌, length, map, bytes_eq, option_map, Option, Some, None, MatchBool};
-ghost use Rattle.std.specs.Option.{IfSome, IfNone};
+ghost use Rattle.std.specs.Option.{IfSome, IfNone, option_to_list};
 ghost use Rattle.event_file.specs.Words.{parted_by, option_written, words_behind};
 
 use crate::search::place_of;
@@ -34,6 +34,21 @@ pub(crate) fn cut(byte: u8, text: &[u8]) -> Option<(&[u8], &[u8])>
 {
     let at = place_of(byte, text)?;
     Some((&text[..at], &text[at + 1..]))
+}
+
+/// A text without a byte of this value, or its two parts around the one that it has; `None` where it has more.
+pub(crate) fn one_or_two(byte: u8, text: &[u8]) -> Option<(&[u8], Option<&[u8]>)>
+    ensures parts { IfSome result (λ parts. parted_by byte text.now
+        ≡ parts.0.now ∷ option_to_list (option_map (λ w. w.now) parts.1)) }
+    ensures more { IfNone result (2 < length (parted_by byte text.now)) }
+{
+    let Some((first, rest)) = cut(byte, text) else {
+        return Some((text, None));
+    };
+    match cut(byte, rest) {
+        None => Some((first, Some(rest))),
+        Some(_) => None,
+    }
 }
 
 /// Puts the parts of a text between the bytes of this value into a room that has none: one of many words would else be

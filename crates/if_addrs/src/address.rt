@@ -117,7 +117,8 @@ impl Address {
         match wanted {
             Wanted::Same(address) => self.is_at(*address),
             Wanted::Own(address) => !self.removed && self.answers_to(*address),
-            Wanted::Far(address) => !self.removed && self.leads_to(*address),
+            // most interfaces are of another kind, which is then all that is looked at
+            Wanted::Far(address) => self.leads_to(*address) && !self.removed,
             Wanted::Near(address) => !self.removed && self.network_holds(*address),
             Wanted::Standing => !self.removed,
         }
