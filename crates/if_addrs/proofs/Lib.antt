@@ -5,6 +5,7 @@ pub mod Homes
 pub mod Keeping
 pub mod Marking
 pub mod Numbers
+pub mod OneKind
 pub mod ReferenceLawsProved
 pub mod SearchLawsProved
 pub mod Searching

@@ -1,11 +1,12 @@
--- Where the code finds an address: it keeps the home of each by its number, and of each interface how many are gone.
-use Rattle.std.specs.Prelude.{◌≡◌, ℕ, ◌+◌, List, [], length, Some, slice_get}
-use Rattle.std.specs.List.{position, position_or_len}
+-- What the code keeps beside the addresses: the home of each by its number, and of each interface how many are gone.
+use Rattle.std.specs.Prelude.{◌≡◌, ℕ, ◌+◌, ◌≤◌, List, [], length, Some, slice_get}
+use Rattle.std.specs.List.{AllByRecursion, position, position_or_len}
 use Rattle.std.specs.Option.{option_map_or}
 use Rattle.if_addrs.specs.Interfaces.{Address, Interface, has_number, has_numbered}
 use Rattle.if_addrs.specs.Numbered.{AreNumbered, uses}
 use Rattle.if_addrs.specs.Told.{is_standing}
 use Rattle.if_addrs.specs.declared.home.Home.{Home}
+use Rattle.if_addrs.specs.declared.kind.Kind.{Kind}
 
 -- the addresses of the interface at a place
 abbrev pub addresses_at : ℕ → List Interface → List Address
@@ -25,3 +26,12 @@ pub record AreAtHome (homes : List Home) (interfaces : List Interface) : Type 0 
 -- how many addresses that were removed come before the first that wasn't
 abbrev pub gone_ahead : List Address → ℕ
 gone_ahead addresses = position_or_len is_standing addresses
+
+-- each of these addresses is of an interface of this kind
+abbrev pub AreOf : Kind → List Address → Type 0
+AreOf kind addresses = AllByRecursion (λ a. a.kind ≡ kind) addresses
+
+-- an interface of this kind keeps these addresses, and at least as many of them are gone as it knows of
+pub record AreKept (known : ℕ) (kind : Kind) (addresses : List Address) : Type 0 where
+  pub gone : known ≤ gone_ahead addresses
+  pub of : AreOf kind addresses

@@ -1,5 +1,5 @@
 -- The interfaces with their addresses.
-use Rattle.std.specs.Prelude.{◌≡◌, ℕ, ◌+◌, ◌-◌, ◌*◌, ◌^◌, ◌≤◌, ◌==◌, nat_le, zero, suc, Bool, true, false, not, ◌&&◌, List, [], ◌∷◌, ◌++◌, length, Option, None, Some, IsSome, IsSomeAnd, is_some, is_none, option_map, unwrap_or, ok_or, Result, Err, bytes_eq, if◌then◌else◌}
+use Rattle.std.specs.Prelude.{◌≡◌, ℕ, ◌+◌, ◌-◌, ◌*◌, ◌^◌, ◌≤◌, ◌==◌, nat_le, zero, suc, Bool, true, false, not, ◌&&◌, List, [], ◌∷◌, ◌++◌, length, Option, None, Some, IsSome, IsSomeAnd, is_some, is_none, option_map, unwrap_or, ok_or, Result, Err, bytes_eq}
 use Rattle.std.specs.List.{find, list_any, flat_map, position, slice_get}
 use Rattle.std.specs.Option.{option_map_or}
 use Rattle.sock_addrs.specs.Link.{interface_link}

@@ -1,4 +1,4 @@
-ghost use Rattle.std.specs.Prelude.{◌≡◌, filter};
+ghost use Rattle.std.specs.Prelude.{◌≡◌, filter, option_map};
 ghost use Rattle.std.specs.List.{find, list_any, position};
 ghost use Rattle.if_addrs.specs.Interfaces.{new_address, last_of_network, far_of, is_at, reference as reference_to};
 ghost use Rattle.if_addrs.specs.Facts.{facts_of};
@@ -117,8 +117,7 @@ impl Address {
         match wanted {
             Wanted::Same(address) => self.is_at(*address),
             Wanted::Own(address) => !self.removed && self.answers_to(*address),
-            // most interfaces are of another kind, which is then all that is looked at
-            Wanted::Far(address) => self.leads_to(*address) && !self.removed,
+            Wanted::Far(address) => !self.removed && self.leads_to(*address),
             Wanted::Near(address) => !self.removed && self.network_holds(*address),
             Wanted::Standing => !self.removed,
         }
@@ -135,7 +134,7 @@ impl Address {
     fn leads_to(&self, address: Inet) -> bool
         ensures { result ≡ leads_to address self.now }
     {
-        self.kind == Kind::PointToPoint && self.far == address
+        self.kind.has_other_end() && self.far == address
     }
 
     /// Whether its network holds this address.
@@ -250,21 +249,25 @@ pub(crate) fn place_of_standing(addresses: &[Address]) -> Option<usize>
 
 /// The first of the longest prefix among those that are as a search wants them.
 #[tactic(auto, using(crate::proofs::Searching::longest_first, crate::proofs::Searching::better_none))]
-pub(crate) fn longest(addresses: &[Address], wanted: &Wanted) -> Option<Address>
-    ensures { result ≡ longest_of (filter (is_wanted wanted.now) addresses.now) }
+pub(crate) fn longest<'a>(addresses: &'a [Address], wanted: &Wanted) -> Option<&'a Address>
+    ensures { option_map (λ a. a.now) result ≡ longest_of (filter (is_wanted wanted.now) addresses.now) }
 {
     let mut best = None;
     for address in addresses {
         if address.is_wanted(wanted) {
-            best = better(best, Some(*address));
+            best = better(best, Some(address));
         }
     }
     best
 }
 
 /// Of two addresses the one of the longer prefix, the first where both are as long.
-pub(crate) fn better(first: Option<Address>, second: Option<Address>) -> Option<Address>
-    ensures { result ≡ better first second }
+pub(crate) fn better<'a>(
+    first: Option<&'a Address>,
+    second: Option<&'a Address>,
+) -> Option<&'a Address>
+    ensures { option_map (λ a. a.now) result
+        ≡ better (option_map (λ a. a.now) first.entry) (option_map (λ a. a.now) second.entry) }
 {
     match (first, second) {
         (Some(a), Some(b)) if a.prefix.bits() < b.prefix.bits() => Some(b),

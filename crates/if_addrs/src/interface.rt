@@ -29,9 +29,8 @@ pub(crate) struct Interface {
 }
 
 impl Model for Interface {
-    ghost use Rattle.std.specs.Prelude.{◌≤◌};
     ghost use Rattle.if_addrs.specs.Interfaces.{Interface as Seen};
-    ghost use Rattle.if_addrs.specs.Homes.{gone_ahead};
+    ghost use Rattle.if_addrs.specs.Homes.{AreKept};
 
     ghost Value = { Seen };
 
@@ -43,7 +42,7 @@ impl Model for Interface {
       addresses = i.addresses.items;
     } };
 
-    ghost invariant = { λ i. i.gone ≤ gone_ahead i.addresses.items };
+    ghost invariant = { λ i. AreKept i.gone i.kind i.addresses.items };
 }
 
 impl Interface {
@@ -115,12 +114,16 @@ impl Interface {
     pub(crate) fn first(&self, wanted: &Wanted) -> Option<Address>
         ensures { result ≡ find (is_wanted wanted.now) self.now.addresses }
     {
-        address::first(self.left(), wanted)
+        match wanted {
+            // an interface without another end has no address that leads to one
+            Wanted::Far(_) if !self.kind.has_other_end() => None,
+            _ => address::first(self.left(), wanted),
+        }
     }
 
     /// The first of the longest prefix among its addresses that are as a search wants them.
-    fn longest(&self, wanted: &Wanted) -> Option<Address>
-        ensures { result ≡ longest_of (filter (is_wanted wanted.now) self.now.addresses) }
+    fn longest(&self, wanted: &Wanted) -> Option<&Address>
+        ensures { option_map (λ a. a.now) result ≡ longest_of (filter (is_wanted wanted.now) self.now.addresses) }
     {
         address::longest(self.left(), wanted)
     }
@@ -135,8 +138,9 @@ impl Interface {
         }
     }
 
-    /// Appends an address.
+    /// Appends an address of its kind.
     pub(crate) fn add(&mut self, address: Address, memory: &mut Memory) -> Result<(), AllocError>
+        requires { address.kind ≡ self.old.kind }
         ensures ok { OnOk result (self.new ≡ with_one_more address self.old) }
         ensures kept { OnErr result (self.new ≡ self.old) }
         ensures counted { Rises (is_err result) memory.old memory.new }
@@ -241,8 +245,9 @@ pub(crate) fn first(interfaces: &[Interface], wanted: &Wanted) -> Option<Address
 
 /// The first of the longest prefix among their addresses that are as a search wants them.
 #[tactic(auto, using(crate::proofs::Searching::better_none))]
-pub(crate) fn longest(interfaces: &[Interface], wanted: &Wanted) -> Option<Address>
-    ensures { result ≡ longest_of (filter (is_wanted wanted.now) (addresses_of interfaces.now)) }
+pub(crate) fn longest<'a>(interfaces: &'a [Interface], wanted: &Wanted) -> Option<&'a Address>
+    ensures { option_map (λ a. a.now) result
+        ≡ longest_of (filter (is_wanted wanted.now) (addresses_of interfaces.now)) }
 {
     let mut best = None;
     for interface in interfaces {

@@ -1,5 +1,6 @@
 ghost use Rattle.std.specs.Prelude.{◌≡◌};
 ghost use Rattle.if_addrs.specs.Interfaces.{fits};
+ghost use Rattle.if_addrs.specs.Searches.{has_other_end};
 
 use sock_addrs::Inet;
 
@@ -16,10 +17,17 @@ pub enum Kind {
 }
 
 impl Kind {
+    /// Whether an interface of this kind has another end.
+    pub(crate) fn has_other_end(self) -> bool
+        ensures { result ≡ has_other_end self }
+    {
+        self == Kind::PointToPoint
+    }
+
     /// Whether an address of the other end is given where an interface of this kind has another end, and only there.
     pub(crate) fn fits(self, far: Option<Inet>) -> bool
         ensures { result ≡ fits self far }
     {
-        far.is_some() == (self == Kind::PointToPoint)
+        far.is_some() == self.has_other_end()
     }
 }

@@ -1,4 +1,5 @@
 use Rattle.std.proofs.Common.{◌≡◌, drop, filter}
+use Rattle.std.specs.Prelude.{option_map}
 use Rattle.if_addrs.specs.Interfaces.{addresses_of}
 use Rattle.if_addrs.specs.Searches.{longest}
 use Rattle.if_addrs.specs.Wanted.{is_wanted, better}
@@ -6,4 +7,4 @@ use Rattle.if_addrs.proofs.interface.longest.Given as goal
 
 abbrev pub invariant-loop-interface : goal.invariant-loop-interface
 invariant-loop-interface l =
-    better l.best (longest (filter (is_wanted l.wanted) (addresses_of (drop l.interface-index l.interfaces)))) ≡ longest (filter (is_wanted l.wanted) (addresses_of l.interfaces))
+    better (option_map (λ a. a.now) l.best) (longest (filter (is_wanted l.wanted) (addresses_of (drop l.interface-index l.interfaces)))) ≡ longest (filter (is_wanted l.wanted) (addresses_of l.interfaces))

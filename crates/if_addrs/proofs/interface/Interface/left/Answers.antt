@@ -7,5 +7,5 @@ use Rattle.if_addrs.proofs.interface.Interface.left.Goals as goal
 pub returns : goal.returns
 returns c =
     ap (λ (xs : List Address). standing (behind c.self.inside.gone xs)) c.deref.ensures.value
-    ∙ standing_behind c.self.inside.gone c.self.inside.addresses.items c.self.invariant
+    ∙ standing_behind c.self.inside.gone c.self.inside.addresses.items c.self.invariant.gone
     ∙ ap (λ (i : Interface). standing i.addresses) c.self.view_is

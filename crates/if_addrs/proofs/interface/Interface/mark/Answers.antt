@@ -2,6 +2,7 @@ use Rattle.std.proofs.Common.{◌≡◌, ◌<◌, ◌∙◌, ap, arith, length, 
 use Rattle.if_addrs.specs.Interfaces.{Address, Interface}
 use Rattle.if_addrs.specs.Wanted.{marked, marked_at, with_marked}
 use Rattle.if_addrs.proofs.Gone.{still_marked}
+use Rattle.if_addrs.proofs.OneKind.{still_of_marked}
 use Rattle.if_addrs.proofs.Marking.{marked_set}
 use Rattle.if_addrs.proofs.interface.Interface.mark.Goals as goal
 use Rattle.if_addrs.proofs.interface.Interface.mark.Goals.{After-mark}
@@ -16,7 +17,11 @@ is_marked c =
 pub invariant_of-self : goal.invariant_of-self
 invariant_of-self c =
     let at = (goal.at.invariant_of-self c).After-mark in
-    still_marked c.self.inside.gone c.args.place c.args.mark c.self.inside.addresses.items _ c.self.invariant (is_marked at)
+    let xs = c.self.inside.addresses.items in
+    record {
+      gone = still_marked c.self.inside.gone c.args.place c.args.mark xs _ c.self.invariant.gone (is_marked at);
+      of = rw (is_marked at) (still_of_marked c.self.inside.kind c.args.place c.args.mark xs c.self.invariant.of);
+    }
 
 pub returns : goal.returns
 returns c =
