@@ -84,6 +84,11 @@ def an_only_address_comes_and_goes(by_chance):
     return ["if le1 broadcast 6 080020010204"] + ["addr le1 10.99.0.1/16", "unaddr le1 10.99.0.1"] * 1_000
 
 
+def many_addresses(by_chance):
+    """Addresses of an interface: one comparison tells of each whether it is the one that is added."""
+    return [f"addr le0 10.{n >> 8}.{n & 255}.1/24" for n in range(2_000)]
+
+
 def over_many_addresses(by_chance):
     """Routes over a gateway, on an interface of many addresses: it has no other end, and is not searched for one."""
     return [f"addr le0 10.{n}.0.1/16" for n in range(200)] + additions(networks(by_chance, 2_000))
@@ -101,6 +106,7 @@ KINDS = (
     come_and_go,
     an_address_comes_and_goes,
     an_only_address_comes_and_goes,
+    many_addresses,
     over_many_addresses,
     dumps,
 )

@@ -1,4 +1,5 @@
 pub mod Facts
+pub mod Held
 pub mod Homes
 pub mod InterfaceLaws
 pub mod Interfaces

@@ -2,10 +2,12 @@ ghost use Rattle.std.specs.Prelude.{◌≡◌, filter, option_map};
 ghost use Rattle.std.specs.List.{find, list_any, position};
 ghost use Rattle.if_addrs.specs.Interfaces.{new_address, last_of_network, far_of, is_at, reference as reference_to};
 ghost use Rattle.if_addrs.specs.Facts.{facts_of};
-ghost use Rattle.if_addrs.specs.Searches.{answers_to, leads_to, network_holds, longest as longest_of};
+ghost use Rattle.if_addrs.specs.Searches.{leads_to, network_holds, longest as longest_of};
 ghost use Rattle.if_addrs.specs.Told.{is_standing, told_before};
 ghost use Rattle.if_addrs.specs.Wanted.{is_wanted, marked, better};
+ghost use Rattle.if_addrs.specs.declared.address.Wanted.TheVariants as wanted;
 
+use crate::held::Held;
 use crate::kind::Kind;
 use crate::reference::{Facts, IfaRef};
 use crate::told::AddressTold;
@@ -40,14 +42,13 @@ pub(crate) enum Mark {
 /// An address of an interface.
 #[derive(Clone, Copy)]
 pub(crate) struct Address {
+    held: Held,
     number: u16,
     kind: Kind,
-    address: Inet,
     prefix: Prefix,
     cloning: bool,
     routed: bool,
     far: Inet,
-    removed: bool,
 }
 
 impl Model for Address {
@@ -58,23 +59,22 @@ impl Model for Address {
     ghost view = { λ a. record {
       number = a.number;
       kind = a.kind;
-      address = a.address;
+      address = a.held.address;
       prefix = a.prefix;
       cloning = a.cloning;
       routed = a.routed;
       far = a.far;
-      removed = a.removed;
+      removed = a.held.removed;
     } };
 
     ghost inverse = { λ a. record {
+      held = record { address = a.address; removed = a.removed };
       number = a.number;
       kind = a.kind;
-      address = a.address;
       prefix = a.prefix;
       cloning = a.cloning;
       routed = a.routed;
       far = a.far;
-      removed = a.removed;
     } };
 }
 
@@ -92,14 +92,13 @@ impl Address {
         ensures { result ≡ new_address number kind address prefix cloning far }
     {
         Address {
+            held: Held::new(address),
             number,
             kind,
-            address,
             prefix,
             cloning,
             routed: false,
             far: far_address(kind, address, prefix, far),
-            removed: false,
         }
     }
 
@@ -107,7 +106,7 @@ impl Address {
     pub(crate) fn is_at(&self, address: Inet) -> bool
         ensures { result ≡ is_at address self.now }
     {
-        !self.removed && self.address == address
+        self.held.is(address)
     }
 
     /// Whether it is as a search wants it.
@@ -116,18 +115,20 @@ impl Address {
     {
         match wanted {
             Wanted::Same(address) => self.is_at(*address),
-            Wanted::Own(address) => !self.removed && self.answers_to(*address),
-            Wanted::Far(address) => !self.removed && self.leads_to(*address),
-            Wanted::Near(address) => !self.removed && self.network_holds(*address),
-            Wanted::Standing => !self.removed,
+            Wanted::Own(address) => self.answers_to(*address),
+            Wanted::Far(address) => self.stands() && self.leads_to(*address),
+            Wanted::Near(address) => self.stands() && self.network_holds(*address),
+            Wanted::Standing => self.stands(),
         }
     }
 
-    /// Whether it is this address, or this is its broadcast address.
+    /// Whether it is this address, or this is its broadcast address, and it was not removed.
     fn answers_to(&self, address: Inet) -> bool
-        ensures { result ≡ answers_to address self.now }
+        ensures { result ≡ is_wanted (wanted.Own address) self.now }
     {
-        self.address == address || (self.kind == Kind::Broadcast && self.far == address)
+        // few have this broadcast address: whether such a one was removed is asked last
+        self.is_at(address)
+            || (self.kind == Kind::Broadcast && self.far == address && self.stands())
     }
 
     /// Whether this is the address of its interface's other end.
@@ -141,21 +142,21 @@ impl Address {
     fn network_holds(&self, address: Inet) -> bool
         ensures { result ≡ network_holds address self.now }
     {
-        agrees(self.address, Rank::of(self.prefix), address)
+        agrees(self.inet(), Rank::of(self.prefix), address)
     }
 
     /// Whether it was not removed.
     pub(crate) fn stands(&self) -> bool
         ensures { result ≡ is_standing self.now }
     {
-        !self.removed
+        !self.held.is_removed()
     }
 
     /// The address itself.
     pub(crate) fn inet(&self) -> Inet
         ensures { result ≡ self.now.address }
     {
-        self.address
+        self.held.inet()
     }
 
     /// The reference to it.
@@ -183,7 +184,7 @@ impl Address {
         ensures { result ≡ told_before next self.now }
     {
         AddressTold {
-            address: self.address,
+            address: self.inet(),
             facts: self.facts(),
             next,
         }
@@ -195,7 +196,7 @@ impl Address {
     {
         match mark {
             Mark::Routed => self.routed = true,
-            Mark::Gone => self.removed = true,
+            Mark::Gone => self.held.remove(),
         }
     }
 }

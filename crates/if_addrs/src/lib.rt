@@ -2,6 +2,7 @@
 #![tactic(auto)]
 
 mod address;
+mod held;
 mod home;
 mod interface;
 mod interfaces;
