@@ -1,4 +1,5 @@
--- What the code keeps beside the addresses: the home of each by its number, and of each interface how many are gone.
+-- What the code keeps beside the addresses: the home of each by its number, and of each interface how many at the
+-- front are gone.
 use Rattle.std.specs.Prelude.{◌≡◌, ℕ, ◌+◌, ◌≤◌, List, [], length, Some, slice_get}
 use Rattle.std.specs.List.{AllByRecursion, position, position_or_len}
 use Rattle.std.specs.Option.{option_map_or}
@@ -31,7 +32,7 @@ gone_ahead addresses = position_or_len is_standing addresses
 abbrev pub AreOf : Kind → List Address → Type 0
 AreOf kind addresses = AllByRecursion (λ a. a.kind ≡ kind) addresses
 
--- an interface of this kind keeps these addresses, and at least as many of them are gone as it knows of
+-- an interface of this kind keeps these addresses, and at least as many at their front are gone as it knows of
 pub record AreKept (known : ℕ) (kind : Kind) (addresses : List Address) : Type 0 where
   pub gone : known ≤ gone_ahead addresses
   pub of : AreOf kind addresses

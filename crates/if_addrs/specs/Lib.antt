@@ -1,10 +1,10 @@
 pub mod Facts
-pub mod Held
 pub mod Homes
 pub mod InterfaceLaws
 pub mod Interfaces
 pub mod Keeping
 pub mod LinkAddress
+pub mod MarkedInet
 pub mod Numbered
 pub mod ReferenceLaws
 pub mod SearchLaws

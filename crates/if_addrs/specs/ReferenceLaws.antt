@@ -7,7 +7,7 @@ use Rattle.if_addrs.specs.declared.kind.Kind.{Kind}
 use Rattle.if_addrs.specs.declared.limits.TheConstants.{MOST_ADDRESSES, MOST_INTERFACES}
 use Rattle.if_addrs.specs.declared.reference.IfaRef.{IfaRef}
 
--- each reference stays one, of the same address on the same interface, and no number is told twice
+-- each reference stays one, of the same address on the same interface, and no number is given twice
 pub record Lasts (old new : List Interface) : Type 0 where
   pub keeps : KeepsIfas old new
   pub same : SameIfas old new

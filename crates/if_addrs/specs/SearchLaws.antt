@@ -13,15 +13,15 @@ use Rattle.if_addrs.specs.declared.reference.IfaRef.{IfaRef}
 abbrev pub Stands : Address → Type 0
 Stands a = a.removed ≡ false
 
--- it is this one, or its interface is a broadcast interface and this is its broadcast address
+-- it was not removed; and it is this one, or its interface is a broadcast interface and this is its broadcast address
 abbrev pub AnswersTo : ℕ → Address → Type 0
 AnswersTo address a = Stands a × ((a.address ≡ address) ⊎ ((a.kind ≡ Broadcast) × (a.far ≡ address)))
 
--- its interface is a point-to-point interface with this address at the other end
+-- it was not removed, and its interface is a point-to-point interface with this address at the other end
 abbrev pub LeadsTo : ℕ → Address → Type 0
 LeadsTo address a = Stands a × (a.kind ≡ PointToPoint) × (a.far ≡ address)
 
--- this address has its network's first bits
+-- it was not removed, and this address has its network's first bits
 abbrev pub NetworkHolds : ℕ → Address → Type 0
 NetworkHolds address a = Stands a × (front a.prefix a.address ≡ front a.prefix address)
 
@@ -60,7 +60,7 @@ abbrev pub WithNetInWords : Type 0
 WithNetInWords = (address : ℕ) (interfaces : List Interface)
     → Finds IsFirstLongest (NetworkHolds address) (addresses_of interfaces) (with_net (gate.Inet address) interfaces)
 
--- the network of none of these holds this address
+-- of none of these that stand the network holds this address
 abbrev pub NoneHolds : ℕ → List Address → Type 0
 NoneHolds address addresses = AllByRecursion (λ a. ¬ (NetworkHolds address a)) addresses
 

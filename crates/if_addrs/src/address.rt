@@ -7,8 +7,8 @@ ghost use Rattle.if_addrs.specs.Told.{is_standing, told_before};
 ghost use Rattle.if_addrs.specs.Wanted.{is_wanted, marked, better};
 ghost use Rattle.if_addrs.specs.declared.address.Wanted.TheVariants as wanted;
 
-use crate::held::Held;
 use crate::kind::Kind;
+use crate::marked_inet::MarkedInet;
 use crate::reference::{Facts, IfaRef};
 use crate::told::AddressTold;
 use mask_table::{Prefix, Rank, agrees};
@@ -42,7 +42,7 @@ pub(crate) enum Mark {
 /// An address of an interface.
 #[derive(Clone, Copy)]
 pub(crate) struct Address {
-    held: Held,
+    marked: MarkedInet,
     number: u16,
     kind: Kind,
     prefix: Prefix,
@@ -59,16 +59,16 @@ impl Model for Address {
     ghost view = { λ a. record {
       number = a.number;
       kind = a.kind;
-      address = a.held.address;
+      address = a.marked.address;
       prefix = a.prefix;
       cloning = a.cloning;
       routed = a.routed;
       far = a.far;
-      removed = a.held.removed;
+      removed = a.marked.removed;
     } };
 
     ghost inverse = { λ a. record {
-      held = record { address = a.address; removed = a.removed };
+      marked = record { address = a.address; removed = a.removed };
       number = a.number;
       kind = a.kind;
       prefix = a.prefix;
@@ -92,7 +92,7 @@ impl Address {
         ensures { result ≡ new_address number kind address prefix cloning far }
     {
         Address {
-            held: Held::new(address),
+            marked: MarkedInet::new(address),
             number,
             kind,
             prefix,
@@ -106,7 +106,7 @@ impl Address {
     pub(crate) fn is_at(&self, address: Inet) -> bool
         ensures { result ≡ is_at address self.now }
     {
-        self.held.is(address)
+        self.marked.is_at(address)
     }
 
     /// Whether it is as a search wants it.
@@ -115,15 +115,15 @@ impl Address {
     {
         match wanted {
             Wanted::Same(address) => self.is_at(*address),
-            Wanted::Own(address) => self.answers_to(*address),
+            Wanted::Own(address) => self.is_own(*address),
             Wanted::Far(address) => self.stands() && self.leads_to(*address),
             Wanted::Near(address) => self.stands() && self.network_holds(*address),
             Wanted::Standing => self.stands(),
         }
     }
 
-    /// Whether it is this address, or this is its broadcast address, and it was not removed.
-    fn answers_to(&self, address: Inet) -> bool
+    /// Whether it was not removed, and is this address or has it as its broadcast address.
+    fn is_own(&self, address: Inet) -> bool
         ensures { result ≡ is_wanted (wanted.Own address) self.now }
     {
         // few have this broadcast address: whether such a one was removed is asked last
@@ -149,14 +149,14 @@ impl Address {
     pub(crate) fn stands(&self) -> bool
         ensures { result ≡ is_standing self.now }
     {
-        !self.held.is_removed()
+        !self.marked.is_removed()
     }
 
     /// The address itself.
     pub(crate) fn inet(&self) -> Inet
         ensures { result ≡ self.now.address }
     {
-        self.held.inet()
+        self.marked.inet()
     }
 
     /// The reference to it.
@@ -196,7 +196,7 @@ impl Address {
     {
         match mark {
             Mark::Routed => self.routed = true,
-            Mark::Gone => self.held.remove(),
+            Mark::Gone => self.marked.remove(),
         }
     }
 }

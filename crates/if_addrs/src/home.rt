@@ -1,4 +1,4 @@
-/// Where an address stands.
+/// Where an address is kept.
 #[derive(Clone, Copy)]
 pub(crate) struct Home {
     /// The place of its interface.

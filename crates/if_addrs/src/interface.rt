@@ -22,8 +22,8 @@ pub(crate) struct Interface {
     kind: Kind,
     type_number: u8,
     link: LinkAddress,
-    /// How many addresses at the front are known to be removed: a search passes over these at once. A `u32` fits where no
-    /// field is, so that an interface takes no more memory.
+    /// How many addresses at the front are known to be removed: a search passes over these at once. A `u32` fits where
+    /// no field is, so that an interface takes no more memory.
     gone: u32,
     addresses: Vec<Address>,
 }

@@ -31,7 +31,7 @@ const FIRST_HOMES: usize = 14;
 #[derive(Drop)]
 pub struct Interfaces {
     pub(crate) interfaces: Vec<Interface>,
-    /// Where each address stands, by its number from 1 on.
+    /// Where each address is kept, by its number from 1 on.
     homes: Vec<Home>,
     alloc: Global,
 }
@@ -176,7 +176,8 @@ impl Interfaces {
         }
     }
 
-    /// Removes an IPv4 address of an interface: no search finds it any more, and a reference to it stays good.
+    /// Removes an IPv4 address of an interface: no search by an address finds it any more, and a reference to it stays
+    /// good.
     pub fn remove_addr(&mut self, ifa: IfaRef)
         requires { IsSome (address_of ifa self.old) }
         ensures removed { self.new ≡ without_addr ifa self.old }
@@ -209,7 +210,7 @@ impl Interfaces {
         }
     }
 
-    /// Where the address with this number stands.
+    /// Where the address with this number is kept.
     fn home(&self, number: u16) -> Option<Home>
         ensures some { IfSome result (λ home. IsHome number home self.now) }
         ensures none { IfNone result (address_of (ifa.Inet number) self.now ≡ None) }

@@ -41,7 +41,8 @@ pub fn searches_in_words()
     ensures interface { OfInterfaceInWords }
 {}
 
-/// Whatever address a search finds stands, and one that was removed doesn't: so no search finds it.
+/// Whatever address a search by an IPv4 address finds stands, and one that was removed doesn't: so no such search finds
+/// it.
 pub fn removed_is_not_found()
     ensures found { FoundStands }
     ensures removed { RemovedStandsNot }

@@ -2,7 +2,6 @@
 #![tactic(auto)]
 
 mod address;
-mod held;
 mod home;
 mod interface;
 mod interfaces;
@@ -10,6 +9,7 @@ mod kind;
 pub mod laws;
 pub mod limits;
 mod link_address;
+mod marked_inet;
 mod reference;
 mod searches;
 mod told;

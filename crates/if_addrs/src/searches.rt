@@ -1,5 +1,6 @@
 //! The searches for an interface address, as a route gets it. They go by interface and then by address, and pass over
-//! the addresses that were removed. What they find is an interface address of these interfaces.
+//! the addresses that were removed; a fallback that a caller gives is taken as it is. What they find is an interface
+//! address of these interfaces.
 ghost use Rattle.std.specs.Prelude.{◌≡◌, ◌≤◌, length, filter, option_map, IfSome};
 ghost use Rattle.std.specs.List.{find, range_with_len};
 ghost use Rattle.if_addrs.specs.Interfaces.{addresses_of, reference, IsOf};

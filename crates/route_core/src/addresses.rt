@@ -104,10 +104,10 @@ impl World {
         Ok(())
     }
 
-    /// Removes an address of an interface: no search finds it any more, and a route that leads out of it keeps it. The
-    /// route that it brought goes with it, unless another address of an interface has that by now; where one goes, the
-    /// sockets hear of both. Refused in this order: ENXIO: there is no such interface; EADDRNOTAVAIL: it doesn't have
-    /// the address. It wants no memory.
+    /// Removes an address of an interface: no search by an address finds it any more, and a route that leads out of it
+    /// keeps it. The route that it brought goes with it, unless another address of an interface has that by now; where
+    /// one goes, the sockets hear of both. Refused in this order: ENXIO: there is no such interface; EADDRNOTAVAIL: it
+    /// doesn't have the address. It wants no memory.
     pub fn remove_address(&mut self, name: Name, address: Inet) -> Answer<'static>
         ensures { Steps self.old (RemoveAddress name address) result self.new }
     {
